@@ -1,0 +1,6 @@
+-- What belongs to no one function of `table_rows`, and what other crates use.
+pub mod PickLaws
+pub mod EveryLaws
+pub mod RowLaws
+pub mod PartLaws
+pub mod ZeroLaws

@@ -1,0 +1,3 @@
+-- The definitions that the contracts of `table_rows` cite.
+pub mod Rows
+pub mod Choice
