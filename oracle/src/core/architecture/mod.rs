@@ -1,0 +1,4 @@
+//! Filled up: what stands around `hart_lifecycle_state.rs`.
+pub use riscv::*;
+
+pub mod riscv;
