@@ -38,9 +38,32 @@ fn a_line_in_form_is_the_line_of_its_request() {
 #[test]
 fn lines_in_no_form() {
     let bad: [&[u8]; 26] = [
-        b"", b"\t", b" ", b"\r", b"\0", b"hom", b"homes", b"Home", b"home\t", b"home\r", b"home ", b"\thome", b"home\t0", b"steal\t0",
-        b"steal\t0\t0\t0", b"steal\t0\t\t0", b"steal 0 0", b"status\t", b"status\t00", b"status\t01", b"status\t+1", b"status\t-1",
-        b"status\t1 ", b"status\t18446744073709551616", b"status\t1\0", b"setup\t1\t1\t0\t0\t0\t0\t0\t0",
+        b"",
+        b"\t",
+        b" ",
+        b"\r",
+        b"\0",
+        b"hom",
+        b"homes",
+        b"Home",
+        b"home\t",
+        b"home\r",
+        b"home ",
+        b"\thome",
+        b"home\t0",
+        b"steal\t0",
+        b"steal\t0\t0\t0",
+        b"steal\t0\t\t0",
+        b"steal 0 0",
+        b"status\t",
+        b"status\t00",
+        b"status\t01",
+        b"status\t+1",
+        b"status\t-1",
+        b"status\t1 ",
+        b"status\t18446744073709551616",
+        b"status\t1\0",
+        b"setup\t1\t1\t0\t0\t0\t0\t0\t0",
     ];
     let mut machine = Machine::new();
     assert_eq!(machine.line(b"setup\t1\t1\t0\t0\t0\t0\t0").answer, Answer::Done);

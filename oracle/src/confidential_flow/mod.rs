@@ -1,4 +1,7 @@
-//! Filled up: what stands around `finite_state_machine.rs`.
+// SPDX-FileCopyrightText: 2023 IBM Corporation
+// SPDX-FileContributor: Wojciech Ozga <woz@zurich.ibm.com>, IBM Research - Zurich
+// SPDX-License-Identifier: Apache-2.0
+// Changed for Oudrameng: cut to the modules that are left, and `Resumed` is added. Every change stands in oracle/README.md.
 use crate::core::control_data::ResumableOperation;
 pub use finite_state_machine::ConfidentialFlow;
 

@@ -35,7 +35,8 @@ impl Command {
     }
 
     pub fn of_remote_command(command: &ConfidentialHartRemoteCommand) -> Self {
-        let with = |kind, harts: &HartMask, start, size, tag| Self { kind, mask: harts.hart_mask, base: harts.hart_mask_base, start, size, tag };
+        let with =
+            |kind, harts: &HartMask, start, size, tag| Self { kind, mask: harts.hart_mask, base: harts.hart_mask_base, start, size, tag };
         match command {
             ConfidentialHartRemoteCommand::Ipi(v) => with(1, &v.harts, 0, 0, 0),
             ConfidentialHartRemoteCommand::RemoteFenceI(v) => with(2, &v.harts, 0, 0, 0),

@@ -47,14 +47,8 @@ pub struct Generator {
 
 impl Generator {
     pub fn new(seed: u64, calm: bool) -> Self {
-        let mut generator = Self {
-            random: Random(seed),
-            machine: Machine::new(),
-            harts: 0,
-            planned: VecDeque::new(),
-            recent: Vec::new(),
-            calm,
-        };
+        let mut generator =
+            Self { random: Random(seed), machine: Machine::new(), harts: 0, planned: VecDeque::new(), recent: Vec::new(), calm };
         generator.plan(Request::Home);
         generator.plan(Request::Steal { hart: 0, hardware_hart: 0 });
         generator
@@ -118,8 +112,7 @@ impl Generator {
 
     /// The hardware hart that a hart is on.
     fn holder(&self, hart: usize) -> Option<usize> {
-        (0..self.machine.hardware_harts())
-            .find(|k| !self.machine.on(*k).is_dummy() && self.machine.on(*k).confidential_hart_id() == hart)
+        (0..self.machine.hardware_harts()).find(|k| !self.machine.on(*k).is_dummy() && self.machine.on(*k).confidential_hart_id() == hart)
     }
 
     fn queue_len(&self, hart: usize) -> usize {
@@ -332,11 +325,8 @@ impl Generator {
             self.plan(Request::Send { sender, command });
         }
         if let Some(hardware_hart) = self.holder(hart) {
-            let request = self.random.of(&[
-                Request::Process { hardware_hart },
-                Request::Resume { hardware_hart },
-                Request::Return { hardware_hart },
-            ]);
+            let request =
+                self.random.of(&[Request::Process { hardware_hart }, Request::Resume { hardware_hart }, Request::Return { hardware_hart }]);
             self.plan(request);
             self.plan(Request::Send { sender, command: beyond });
         }

@@ -241,11 +241,12 @@ impl Machine {
                     flow.broadcast_remote_command(confidential_vm, command)
                 })?)
             }
-            Request::Send { sender, command } => {
-                Answer::Mask(self.vm(|vm| vm.broadcast_remote_command(sender, remote_command(command)))?)
-            }
+            Request::Send { sender, command } => Answer::Mask(self.vm(|vm| vm.broadcast_remote_command(sender, remote_command(command)))?),
             Request::Allow { bits } => {
-                self.vm(|vm| Ok(vm.allow_external_interrupt(bits)))?;
+                self.vm(|vm| {
+                    vm.allow_external_interrupt(bits);
+                    Ok(())
+                })?;
                 Answer::Done
             }
             Request::Add { base, size } => {
@@ -253,7 +254,10 @@ impl Machine {
                 Answer::Done
             }
             Request::Remove { base, size } => {
-                self.vm(|vm| Ok(vm.remove_mmio_region(&ConfidentialVmMmioRegion::new(base, size)?)))?;
+                self.vm(|vm| {
+                    vm.remove_mmio_region(&ConfidentialVmMmioRegion::new(base, size)?);
+                    Ok(())
+                })?;
                 Answer::Done
             }
             Request::Defined { base, size } => {
@@ -299,7 +303,8 @@ impl Machine {
 
     /// The commands that wait for a hart, or nothing where there is no such hart.
     pub fn queue(&self, hart: usize) -> Option<Vec<Command>> {
-        self.vm(|vm| vm.try_confidential_hart_remote_commands(hart, |queue| Ok(queue.iter().map(Command::of_remote_command).collect()))).ok()
+        self.vm(|vm| vm.try_confidential_hart_remote_commands(hart, |queue| Ok(queue.iter().map(Command::of_remote_command).collect())))
+            .ok()
     }
 }
 

@@ -1,4 +1,7 @@
-//! Filled up: what stands around `hart_lifecycle_state.rs`.
+// SPDX-FileCopyrightText: 2023 IBM Corporation
+// SPDX-FileContributor: Wojciech Ozga <woz@zurich.ibm.com>, IBM Research - Zurich
+// SPDX-License-Identifier: Apache-2.0
+// Changed for Oudrameng: cut to the one module that is left. Every change stands in oracle/README.md.
 pub use riscv::*;
 
 pub mod riscv;

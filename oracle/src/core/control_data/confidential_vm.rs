@@ -53,7 +53,6 @@ impl ConfidentialVm {
     pub fn confidential_vm_id(&self) -> ConfidentialVmId {
         self.id
     }
-
 }
 
 /* Heavy context switches */

@@ -1,4 +1,7 @@
-//! Filled up: what stands around the original's files.
+// SPDX-FileCopyrightText: 2023 IBM Corporation
+// SPDX-FileContributor: Wojciech Ozga <woz@zurich.ibm.com>, IBM Research - Zurich
+// SPDX-License-Identifier: Apache-2.0
+// Changed for Oudrameng: cut to the modules that are left. Every change stands in oracle/README.md.
 pub use confidential_hart::ConfidentialHart;
 pub use confidential_hart_remote_command::{ConfidentialHartRemoteCommand, ConfidentialHartRemoteCommandExecutable};
 pub use confidential_vm::ConfidentialVm;

@@ -19,7 +19,9 @@ impl ControlDataStorage {
     }
 
     pub fn try_confidential_vm<F, O>(confidential_vm_id: ConfidentialVmId, op: O) -> Result<F, Error>
-    where O: FnOnce(&mut ConfidentialVm) -> Result<F, Error> {
+    where
+        O: FnOnce(&mut ConfidentialVm) -> Result<F, Error>,
+    {
         CONFIDENTIAL_VM.with_borrow_mut(|confidential_vm| match confidential_vm {
             Some(confidential_vm) if confidential_vm.confidential_vm_id() == confidential_vm_id => op(confidential_vm),
             _ => Err(Error::InvalidConfidentialVmId()),
