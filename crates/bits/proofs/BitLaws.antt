@@ -155,6 +155,11 @@ or-le-l x y = omega (arith, or-add-and x y, and-le-r x y)
 pub or-le-r : (x y : ℕ) → y ≤ bitOr x y
 or-le-r x y = omega (arith, or-add-and x y, and-le-l x y)
 
+-- a joined number is 0 exactly when both are
+pub or-none : (x y : ℕ) → eqb (bitOr x y) 0 ≡ eqb x 0 && eqb y 0
+or-none zero y = ap (λ (n : ℕ). eqb n 0) (or-zero-l y)
+or-none (suc x) y = rw (eqb·suc-zero x) (ne-eqb (bitOr (suc x) y) 0 (λ e. omega (arith, or-le-l (suc x) y)))
+
 -- ---- what fits k binary digits
 
 -- there is no bit past the digits
@@ -167,8 +172,3 @@ clear-le d x = omega arith
 
 pub set-lt : (k d x : ℕ) → x < 2 ^ k → d < k → setBit d x < 2 ^ k
 set-lt k d x hx hd = rw (← (or-set k x d hd), shl-one k d hd) (or-lt k x (2 ^ d) hx (pow-lt hd))
-
--- a joined number is 0 exactly when both are
-pub or-none : (x y : ℕ) → eqb (bitOr x y) 0 ≡ eqb x 0 && eqb y 0
-or-none zero y = ap (λ (n : ℕ). eqb n 0) (or-zero-l y)
-or-none (suc x) y = rw (eqb·suc-zero x) (ne-eqb (bitOr (suc x) y) 0 (λ e. omega (arith, or-le-l (suc x) y)))
