@@ -5,8 +5,9 @@ use std::io::{BufRead, BufReader, BufWriter, Write};
 use std::process::ExitCode;
 
 const USAGE: &str = "\
-oracle run < TRACE           answers each line of a trace as the original Rust does, or with `panic`
-oracle gen SEED LINES [calm] makes a trace; calm leaves out the lines at which the Rust panics
+oracle run < TRACE       answers each line of a trace as the original Rust does; where that panics, with
+                         `panic` and the number that document 01 gives
+oracle gen SEED LINES    makes a trace
 ";
 
 fn main() -> ExitCode {
@@ -14,9 +15,8 @@ fn main() -> ExitCode {
     let words: Vec<&str> = words.iter().map(String::as_str).collect();
     let done = match words.as_slice() {
         ["run"] => run(),
-        ["gen", seed, lines, rest @ ..] => match (seed.parse(), lines.parse(), rest) {
-            (Ok(seed), Ok(lines), []) => generate(seed, lines, false),
-            (Ok(seed), Ok(lines), ["calm"]) => generate(seed, lines, true),
+        ["gen", seed, lines] => match (seed.parse(), lines.parse()) {
+            (Ok(seed), Ok(lines)) => generate(seed, lines),
             _ => return usage(),
         },
         _ => return usage(),
@@ -49,9 +49,9 @@ fn run() -> std::io::Result<()> {
 }
 
 /// The last line of a trace with an odd seed has no line end.
-fn generate(seed: u64, lines: usize, calm: bool) -> std::io::Result<()> {
+fn generate(seed: u64, lines: usize) -> std::io::Result<()> {
     let mut output = BufWriter::new(std::io::stdout().lock());
-    let mut generator = Generator::new(seed, calm);
+    let mut generator = Generator::new(seed);
     for place in 1..=lines {
         output.write_all(&generator.line())?;
         if place < lines || seed % 2 == 0 {

@@ -1,11 +1,12 @@
 //! What holds of every trace that the generator makes, and of lines in no form.
+use oracle::core::architecture::HartLifecycleState;
 use oracle::driver::generator::Generator;
-use oracle::driver::{Answer, Machine, Request};
+use oracle::driver::{Answer, Command, Machine, Request};
 use std::collections::{BTreeSet, HashSet};
 
 /// Each line of a trace with the machine before it. Generator and machine share a thread's storage, so the trace is made first.
 fn trace(seed: u64, lines: usize) -> Vec<Vec<u8>> {
-    let mut generator = Generator::new(seed, false);
+    let mut generator = Generator::new(seed);
     (0..lines).map(|_| generator.line()).collect()
 }
 
@@ -13,17 +14,6 @@ fn trace(seed: u64, lines: usize) -> Vec<Vec<u8>> {
 fn a_seed_makes_one_trace() {
     assert_eq!(trace(7, 3000), trace(7, 3000));
     assert_ne!(trace(7, 3000), trace(8, 3000));
-}
-
-#[test]
-fn a_calm_trace_is_the_same_without_panics() {
-    let mut generator = Generator::new(7, true);
-    let calm: Vec<_> = (0..3000).map(|_| generator.line()).collect();
-    let mut machine = Machine::new();
-    assert!(calm.iter().all(|line| machine.line(line).answer != Answer::Panic));
-    let mut machine = Machine::new();
-    let without: Vec<_> = trace(7, 6000).into_iter().filter(|line| machine.line(line).answer != Answer::Panic).take(3000).collect();
-    assert_eq!(calm, without);
 }
 
 #[test]
@@ -74,6 +64,7 @@ fn lines_in_no_form() {
     assert_eq!(machine.line(b"status\t0").answer, Answer::State(0));
 }
 
+/// Panics aside: what is put back after them cannot show here.
 #[test]
 fn a_refusal_changes_nothing_but_after_8() {
     for seed in 1..=4 {
@@ -81,13 +72,77 @@ fn a_refusal_changes_nothing_but_after_8() {
         for line in trace(seed, 5000) {
             let before = machine.tables();
             let outcome = machine.line(&line);
-            let refused = matches!(outcome.answer, Answer::Panic | Answer::Refused(_));
-            if refused && outcome.answer != Answer::Refused(8) {
+            if matches!(outcome.answer, Answer::Refused(number) if number != 8) {
                 assert_eq!(machine.tables(), before, "{}", line.escape_ascii());
                 assert_eq!(outcome.did, [], "{}", line.escape_ascii());
             }
         }
     }
+}
+
+/// Who gets a broadcast, in which order, what stops it and what it answers, worked out plainly beside the Rust.
+#[test]
+fn a_broadcast_delivers_as_document_01_says() {
+    let mut refused = 0;
+    for seed in 1..=4 {
+        let mut machine = Machine::new();
+        for line in trace(seed, 5000) {
+            let Some((sender, command)) = broadcast(&machine, &line) else {
+                machine.line(&line);
+                continue;
+            };
+            let mut queues = queues(&machine);
+            let mut expected = Answer::Mask(0);
+            for (hart, queue) in queues.iter_mut().enumerate() {
+                let holder = (0..machine.hardware_harts()).find(|k| holds(&machine, *k) == Some(hart));
+                let executable = matches!(machine.state(hart), Some(HartLifecycleState::Started | HartLifecycleState::Suspended));
+                if hart == sender || !selects(command, hart) || !(holder.is_some() || executable) {
+                    continue;
+                }
+                if queue.len() == 64 {
+                    expected = Answer::Refused(8);
+                    refused += 1;
+                    break;
+                }
+                if !queue.contains(&command) {
+                    queue.push(command);
+                }
+                if let (Answer::Mask(mask), Some(hardware_hart)) = (&mut expected, holder) {
+                    *mask |= 1 << hardware_hart;
+                }
+            }
+            assert_eq!(machine.line(&line).answer, expected, "{}", line.escape_ascii());
+            assert_eq!(self::queues(&machine), queues, "{}", line.escape_ascii());
+        }
+    }
+    assert!(refused > 100, "the traces meet full queues");
+}
+
+/// The sender and the command of a broadcast that comes as far as the queues.
+fn broadcast(machine: &Machine, line: &[u8]) -> Option<(usize, Command)> {
+    let (sender, command) = match Request::parse(line)? {
+        Request::Send { sender, command } => (sender, command),
+        Request::Broadcast { hardware_hart, command } if hardware_hart < machine.hardware_harts() => {
+            (holds(machine, hardware_hart)?, command)
+        }
+        _ => return None,
+    };
+    (machine.is_set_up() && command.to_remote_command().is_some()).then_some((sender, command))
+}
+
+fn selects(command: Command, hart: usize) -> bool {
+    let Command { kind, mask, base, .. } = command;
+    kind == 6 || base == usize::MAX || (base <= hart && hart - base < 64 && mask / 2usize.pow((hart - base) as u32) % 2 == 1)
+}
+
+/// The confidential hart on a hardware hart.
+fn holds(machine: &Machine, hardware_hart: usize) -> Option<usize> {
+    let held = machine.on(hardware_hart);
+    (!held.is_dummy()).then(|| held.confidential_hart_id())
+}
+
+fn queues(machine: &Machine) -> Vec<Vec<Command>> {
+    (0..).map_while(|hart| machine.queue(hart)).collect()
 }
 
 /// The Rust panics exactly where document 01 refuses with 15, with 16 (but in await and broadcast) or with 17.
@@ -99,7 +154,8 @@ fn a_panic_is_an_assert_of_the_rust() {
         for line in trace(seed, 5000) {
             let number = Request::parse(&line).and_then(|request| asserted(&machine, request));
             let answer = machine.line(&line).answer;
-            assert_eq!(answer == Answer::Panic, number.is_some(), "{}", line.escape_ascii());
+            let panicked = if let Answer::Panic(number) = answer { Some(number) } else { None };
+            assert_eq!(panicked, number, "{}", line.escape_ascii());
             panics.extend(number);
         }
     }

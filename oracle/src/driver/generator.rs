@@ -41,35 +41,29 @@ pub struct Generator {
     planned: VecDeque<Vec<u8>>,
     /// Commands sent lately, some of which are sent again.
     recent: Vec<Command>,
-    /// Leave out the lines at which the Rust panics.
-    calm: bool,
 }
 
 impl Generator {
-    pub fn new(seed: u64, calm: bool) -> Self {
-        let mut generator =
-            Self { random: Random(seed), machine: Machine::new(), harts: 0, planned: VecDeque::new(), recent: Vec::new(), calm };
+    pub fn new(seed: u64) -> Self {
+        let mut generator = Self { random: Random(seed), machine: Machine::new(), harts: 0, planned: VecDeque::new(), recent: Vec::new() };
         generator.plan(Request::Home);
+        generator.bad_line();
         generator.plan(Request::Steal { hart: 0, hardware_hart: 0 });
         generator
     }
 
     /// The next line of the trace, without its line end.
     pub fn line(&mut self) -> Vec<u8> {
-        loop {
-            if self.planned.is_empty() {
-                self.choose();
-            }
-            let line = self.planned.pop_front().expect("a line was planned");
-            let answer = self.machine.line(&line).answer;
-            if let (Answer::Done, Some(Request::Setup { harts, .. })) = (&answer, Request::parse(&line)) {
-                self.harts = harts;
-                self.recent.clear();
-            }
-            if !(self.calm && answer == Answer::Panic) {
-                return line;
-            }
+        if self.planned.is_empty() {
+            self.choose();
         }
+        let line = self.planned.pop_front().expect("a line was planned");
+        let answer = self.machine.line(&line).answer;
+        if let (Answer::Done, Some(Request::Setup { harts, .. })) = (answer, Request::parse(&line)) {
+            self.harts = harts;
+            self.recent.clear();
+        }
+        line
     }
 
     fn plan(&mut self, request: Request) {
@@ -123,7 +117,7 @@ impl Generator {
 /// Setups, good and bad.
 impl Generator {
     fn setup(&mut self) {
-        if self.random.one_in(2) {
+        if self.random.one_in(3) {
             let (harts, hardware_harts, boot) = self.random.of(&[
                 (0, 1, 0),
                 (1, 0, 0),
@@ -133,9 +127,13 @@ impl Generator {
                 (1024, 64, 1023),
                 (9, 4, 0),
                 (8, 5, 7),
+                (9, 4, 9),
+                (1 << 32, 1, 0),
+                (1, 1 << 32, 0),
+                (8, 4, 1 << 32),
                 (MAX, MAX, MAX),
             ]);
-            self.setup_of(harts, hardware_harts, boot);
+            return self.setup_of(harts, hardware_harts, boot);
         }
         let harts = self.random.of(&[1, 2, 3, 4, 5, 6, 7, 8, 8, 8]);
         let hardware_harts = self.random.of(&[1, 2, 3, 4, 4]);
@@ -224,11 +222,11 @@ impl Generator {
             6 => Request::Stop { hardware_hart },
             7 => Request::Wake { hardware_hart, address, opaque },
             8 if self.random.one_in(8) => Request::Off { hardware_hart },
-            8 | 9 => Request::Await { hardware_hart, kind: self.random.of(&[0, 1, 2, 3, 4, 5, 6, MAX]), x, y },
+            8 | 9 => Request::Await { hardware_hart, kind: self.random.of(&[0, 1, 2, 3, 4, 5, 6, (1 << 32) + 1, MAX]), x, y },
             10 => Request::Process { hardware_hart },
             11 => Request::Resume { hardware_hart },
             12 | 13 => Request::Broadcast { hardware_hart, command },
-            14 => Request::Send { sender: self.random.of(&[hart, MAX]), command },
+            14 => Request::Send { sender: self.random.of(&[hart, hart % 8 + (1 << 32), MAX]), command },
             _ => Request::Status { hart },
         };
         self.plan(request);
@@ -236,7 +234,7 @@ impl Generator {
 
     /// A number below n, now and then n itself or one far beyond.
     fn below_or_beyond(&mut self, n: usize) -> usize {
-        if self.random.one_in(8) { self.random.of(&[n, n + 1, 64, 1024, MAX]) } else { self.random.below(n) }
+        if self.random.one_in(8) { self.random.of(&[n, n + 1, 64, 1024, 1 << 32, MAX]) } else { self.random.below(n) }
     }
 
     fn sender(&mut self) -> usize {
@@ -386,35 +384,57 @@ impl Generator {
 /// Lines in no form.
 impl Generator {
     fn bad_line(&mut self) {
-        let good: [&[u8]; 6] =
-            [b"steal\t0\t0", b"home", b"return\t1", b"send\t0\t1\t3\t0\t0\t0\t0", b"add\t4096\t4096", b"setup\t2\t2\t0\t0\t0\t0\t0"];
-        let mut line = self.random.of(&good).to_vec();
-        let place = self.random.below(line.len() + 1);
-        match self.random.below(22) {
-            0 => line.clear(),
-            1 => line.push(b'\t'),
-            2 => line.insert(0, b'\t'),
-            3 => line.push(b'\r'),
-            4 => line.push(b' '),
-            5 => line.insert(0, b' '),
-            6 => line.extend(b"\t0"),
-            7 => line.extend(b"\t\t0"),
-            8 => line.insert(place, 0),
-            9 => line.insert(place, 0xff),
-            10 => line.insert(place, b'-'),
-            11 => line.make_ascii_uppercase(),
-            12 => line = line.iter().map(|byte| if *byte == b'\t' { b' ' } else { *byte }).chain([b' ']).collect(),
-            13 => line = b"status\t00".to_vec(),
-            14 => line = b"status\t01".to_vec(),
-            15 => line = b"status\t+1".to_vec(),
-            16 => line = b"allow\t18446744073709551616".to_vec(),
-            17 => line = b"allow\t99999999999999999999999999".to_vec(),
-            18 => line = b"allow\t0x10".to_vec(),
-            19 => line = b"broadcast\t0\t1\t3\t0\t0\t0".to_vec(),
-            20 => line = b"stat\t1".to_vec(),
-            _ => line.resize(line.len() + self.random.below(600), b'7'),
+        const FORMS: [&str; 19] = [
+            "setup\t2\t2\t0\t0\t0\t0\t0",
+            "steal\t0\t0",
+            "return\t1",
+            "start\t1\t0\t0",
+            "suspend\t0",
+            "stop\t0",
+            "wake\t0\t0\t0",
+            "off\t0",
+            "status\t1",
+            "await\t0\t1\t2\t3",
+            "process\t0",
+            "resume\t0",
+            "broadcast\t0\t1\t3\t0\t0\t0\t0",
+            "send\t0\t1\t3\t0\t0\t0\t0",
+            "allow\t4",
+            "add\t4096\t4096",
+            "remove\t4096\t4096",
+            "defined\t4096\t4096",
+            "home",
+        ];
+        let form = self.random.of(&FORMS);
+        let mut fields: Vec<Vec<u8>> = form.split('\t').map(|field| field.as_bytes().to_vec()).collect();
+        let (last, place) = (fields.len() - 1, self.random.below(fields.len()));
+        // The word or a number of the line, and what becomes of it.
+        match self.random.below(20) {
+            0 => fields.clear(),
+            1 => fields.push(b"0".to_vec()),
+            2 => drop(fields.pop()),
+            3 => fields[place].clear(),
+            4 => fields[last] = b"00".to_vec(),
+            5 => fields[last].insert(0, b'0'),
+            6 => fields[last] = b"18446744073709551616".to_vec(),
+            7 => fields[last] = b"99999999999999999999999999".to_vec(),
+            8 => fields[last].insert(0, b'+'),
+            9 => fields[last].insert(0, b'-'),
+            10 => fields[last] = b"0x1".to_vec(),
+            11 => fields[last].push(b'\r'),
+            12 => fields[place].push(b' '),
+            13 => fields[place].insert(0, b' '),
+            14 => fields[place].push(0),
+            15 => fields[place].push(0xff),
+            16 => fields[0].make_ascii_uppercase(),
+            17 => drop(fields[0].pop()),
+            18 => fields = vec![fields.join(&b' ')],
+            _ => {
+                let length = self.random.of(&[21, 200, 6000]);
+                fields[last].resize(length, b'7');
+            }
         }
         // Now and then a change leaves a line in form; that is a request as good as any other.
-        self.planned.push_back(line);
+        self.planned.push_back(fields.join(&b'\t'));
     }
 }

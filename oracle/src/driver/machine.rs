@@ -12,7 +12,7 @@ use crate::effects::{self, Effect};
 use crate::error::Error;
 use std::cell::Cell;
 use std::fmt::{Display, Formatter};
-use std::panic::{AssertUnwindSafe, catch_unwind};
+use std::panic::{AssertUnwindSafe, catch_unwind, resume_unwind, set_hook, take_hook};
 use std::sync::Once;
 
 /// What is answered, after the effects.
@@ -34,8 +34,8 @@ pub enum Answer {
     Run,
     /// A number other than 0, alone.
     Refused(usize),
-    /// The Rust panicked: document 01 decides.
-    Panic,
+    /// The Rust panicked: document 01 decides, and this is its number.
+    Panic(usize),
 }
 
 /// A request's effects and its answer.
@@ -66,7 +66,7 @@ impl Display for Outcome {
             Answer::Operation(kind, x, y) => writeln!(f, "0\top\t{kind}\t{x}\t{y}"),
             Answer::Run => writeln!(f, "0\trun"),
             Answer::Refused(number) => writeln!(f, "{number}"),
-            Answer::Panic => writeln!(f, "panic"),
+            Answer::Panic(number) => writeln!(f, "panic\t{number}"),
         }
     }
 }
@@ -112,23 +112,39 @@ impl Machine {
         if let Err(number) = self.added_checks(request) {
             return Outcome::refused(number);
         }
-        let before = self.tables();
-        let result = caught(|| self.run(request));
+        let waiting = self.waiting(request);
+        let result = self.undone_on_panic(|machine| machine.run(request));
         let did = effects::take();
         match result {
             Some(Ok(Done::Answer(answer))) => Outcome { did, answer },
             Some(Ok(Done::Processed(processed))) => {
-                assert_eq!(processed, !did.is_empty(), "the Rust says whether it did a command");
-                let answer = Answer::Count(did.len());
-                Outcome { did, answer }
+                assert_eq!((processed, did.len()), (waiting != 0, waiting), "the Rust did what waited, and says so");
+                Outcome { did, answer: Answer::Count(waiting) }
             }
             Some(Err(error)) => Outcome { did, answer: Answer::Refused(number_of(error)) },
-            None => {
-                ControlDataStorage::store(before.confidential_vm);
-                self.hardware_harts = before.hardware_harts;
-                Outcome { did: Vec::new(), answer: Answer::Panic }
-            }
+            None => Outcome { did: Vec::new(), answer: Answer::Panic(asserted(request)) },
         }
+    }
+
+    /// How many commands wait for the hart that a process is for.
+    fn waiting(&self, request: &Request) -> usize {
+        match *request {
+            Request::Process { hardware_hart } if !self.on(hardware_hart).is_dummy() => {
+                self.queue(self.on(hardware_hart).confidential_hart_id()).map_or(0, |queue| queue.len())
+            }
+            _ => 0,
+        }
+    }
+
+    /// What the Rust gives back, or nothing where it panics; then the tables are as they were.
+    fn undone_on_panic<F>(&mut self, run: impl FnOnce(&mut Self) -> F) -> Option<F> {
+        let before = self.tables();
+        let result = caught(|| run(self));
+        if result.is_none() {
+            ControlDataStorage::store(before.confidential_vm);
+            self.hardware_harts = before.hardware_harts;
+        }
+        result
     }
 
     /// The checks that the Rust does not make, in document 01's order. 16 is among them only where the Rust does not assert it.
@@ -332,6 +348,22 @@ fn number_of(error: Error) -> usize {
     }
 }
 
+/// Document 01's number for the one thing that the Rust asserts in a request.
+fn asserted(request: &Request) -> usize {
+    match request {
+        Request::Steal { .. } => 15,
+        Request::Await { .. } => 17,
+        Request::Return { .. }
+        | Request::Suspend { .. }
+        | Request::Stop { .. }
+        | Request::Wake { .. }
+        | Request::Off { .. }
+        | Request::Process { .. }
+        | Request::Resume { .. } => 16,
+        _ => panic!("Bug: the Rust panicked at {request:?}, which asserts nothing"),
+    }
+}
+
 fn state_number(state: &HartLifecycleState) -> usize {
     match state {
         HartLifecycleState::Started => 0,
@@ -370,23 +402,61 @@ thread_local! {
     static IS_CAUGHT: Cell<bool> = const { Cell::new(false) };
 }
 
-/// What the Rust gives back, or nothing where it panics.
+/// What the Rust gives back, or nothing where it panics. A panic of the driver's own lines is a bug and goes on.
 fn caught<F>(run: impl FnOnce() -> F) -> Option<F> {
     IS_CAUGHT.set(true);
     let result = catch_unwind(AssertUnwindSafe(run));
-    IS_CAUGHT.set(false);
-    result.ok()
+    let is_bug = !IS_CAUGHT.replace(false);
+    match result {
+        Ok(given) => Some(given),
+        Err(panic) if is_bug => resume_unwind(panic),
+        Err(_) => None,
+    }
 }
 
-/// A panic of the Rust is an answer and prints nothing; a panic of the driver is a bug and is printed as usual.
+/// A panic of the Rust is an answer and prints nothing; one of the driver is printed as usual.
 fn keep_caught_panics_quiet() {
     static ONCE: Once = Once::new();
     ONCE.call_once(|| {
-        let usual = std::panic::take_hook();
-        std::panic::set_hook(Box::new(move |panic| {
+        let usual = take_hook();
+        set_hook(Box::new(move |panic| {
+            if panic.location().is_none_or(|location| location.file().contains("src/driver/")) {
+                IS_CAUGHT.set(false);
+            }
             if !IS_CAUGHT.get() {
                 usual(panic);
             }
         }));
     });
+}
+
+#[cfg(test)]
+mod tests {
+    use super::*;
+
+    fn machine() -> Machine {
+        let mut machine = Machine::new();
+        assert_eq!(machine.line(b"setup\t2\t1\t0\t0\t0\t0\t0").answer, Answer::Done);
+        machine
+    }
+
+    #[test]
+    fn a_panic_of_the_rust_leaves_the_tables_as_they_were() {
+        let mut machine = machine();
+        let before = machine.tables();
+        let result = machine.undone_on_panic(|machine| {
+            machine.run(&Request::Steal { hart: 0, hardware_hart: 0 }).expect("the hart is free");
+            machine.run(&Request::Allow { bits: 1 }).expect("always done");
+            assert_ne!(machine.tables(), before);
+            ConfidentialHart::dummy(0).transition_to_shutdown();
+        });
+        assert_eq!(result, None);
+        assert_eq!(machine.tables(), before);
+    }
+
+    #[test]
+    #[should_panic(expected = "index out of bounds")]
+    fn a_panic_of_the_driver_is_no_answer() {
+        machine().undone_on_panic(|machine| machine.run(&Request::Return { hardware_hart: 1 })).map(|_| ());
+    }
 }
