@@ -32,7 +32,7 @@ const MAX: usize = usize::MAX;
 const MOST_COMMANDS: usize = 64;
 
 /// Numbers at which something changes.
-const EDGES: [usize; 14] = [0, 1, 2, 7, 8, 9, 63, 64, 4096, 1 << 32, 1 << 63, MAX - 64, MAX - 1, MAX];
+const EDGES: [usize; 15] = [0, 1, 2, 7, 8, 9, 63, 64, 4096, 1 << 32, (1 << 32) + 1, 1 << 63, MAX - 64, MAX - 1, MAX];
 
 pub struct Generator {
     random: Random,
@@ -128,8 +128,8 @@ impl Generator {
                 (9, 4, 0),
                 (8, 5, 7),
                 (9, 4, 9),
-                (1 << 32, 1, 0),
-                (1, 1 << 32, 0),
+                ((1 << 32) + 1, 1, 0),
+                (1, (1 << 32) + 1, 0),
                 (8, 4, 1 << 32),
                 (MAX, MAX, MAX),
             ]);
@@ -409,7 +409,7 @@ impl Generator {
         let mut fields: Vec<Vec<u8>> = form.split('\t').map(|field| field.as_bytes().to_vec()).collect();
         let (last, place) = (fields.len() - 1, self.random.below(fields.len()));
         // The word or a number of the line, and what becomes of it.
-        match self.random.below(20) {
+        match self.random.below(21) {
             0 => fields.clear(),
             1 => fields.push(b"0".to_vec()),
             2 => drop(fields.pop()),
@@ -429,6 +429,7 @@ impl Generator {
             16 => fields[0].make_ascii_uppercase(),
             17 => drop(fields[0].pop()),
             18 => fields = vec![fields.join(&b' ')],
+            19 => fields.push(Vec::new()),
             _ => {
                 let length = self.random.of(&[21, 200, 6000]);
                 fields[last].resize(length, b'7');
