@@ -1,0 +1,2 @@
+-- The numbers that contracts cite.
+pub mod Error
