@@ -8,24 +8,42 @@ pub const DONE: u64 = 0;
 
 // The Rust's errors.
 pub const INVALID_HART_ID: u64 = 1;
+
 pub const HART_ALREADY_RUNNING: u64 = 2;
+
 pub const HART_NOT_EXECUTABLE: u64 = 3;
+
 pub const CANNOT_START_NOT_STOPPED_HART: u64 = 4;
+
 pub const CANNOT_SUSPED_NOT_STARTED_HART: u64 = 5;
+
 pub const CANNOT_STOP_NOT_STARTED_HART: u64 = 6;
+
 pub const CANNOT_START_NOT_SUSPENDED_HART: u64 = 7;
+
 pub const REACHED_MAX_NUMBER_OF_REMOTE_COMMANDS: u64 = 8;
+
 pub const REACHED_MAX_NUMBER_OF_MMIO_REGIONS: u64 = 9;
+
 pub const OVERLAPPING_MMIO_REGION: u64 = 10;
 
 // What the Rust asserts or leaves to others.
 pub const END_TOO_LARGE: u64 = 11;
+
 pub const TABLES_NOT_SOUND: u64 = 12;
+
 pub const ROOM_TOO_SHORT: u64 = 13;
+
 pub const NO_SUCH_HARDWARE_HART: u64 = 14;
+
 pub const HARDWARE_HART_BUSY: u64 = 15;
+
 pub const HARDWARE_HART_IDLE: u64 = 16;
+
 pub const OPERATION_PENDING: u64 = 17;
+
 pub const SETUP_OUT_OF_RANGE: u64 = 18;
+
 pub const UNKNOWN_KIND: u64 = 19;
+
 pub const BAD_LINE: u64 = 20;
