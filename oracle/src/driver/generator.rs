@@ -1,32 +1,8 @@
 //! Makes traces: mostly moves that the tables allow, with full queues, repeated commands, edges of selection and of regions, requests at
 //! random and bad lines among them. The same seed makes the same trace.
 use crate::core::architecture::HartLifecycleState;
-use crate::driver::{Answer, Command, Machine, Request};
+use crate::driver::{Answer, Command, Machine, Random, Request};
 use std::collections::VecDeque;
-
-/// A stream of numbers that a seed decides: the generator SplitMix64.
-struct Random(u64);
-
-impl Random {
-    fn next(&mut self) -> usize {
-        self.0 = self.0.wrapping_add(0x9e37_79b9_7f4a_7c15);
-        let z = (self.0 ^ (self.0 >> 30)).wrapping_mul(0xbf58_476d_1ce4_e5b9);
-        let z = (z ^ (z >> 27)).wrapping_mul(0x94d0_49bb_1331_11eb);
-        (z ^ (z >> 31)) as usize
-    }
-
-    fn below(&mut self, n: usize) -> usize {
-        self.next() % n
-    }
-
-    fn one_in(&mut self, n: usize) -> bool {
-        self.below(n) == 0
-    }
-
-    fn of<T: Clone>(&mut self, choices: &[T]) -> T {
-        choices[self.below(choices.len())].clone()
-    }
-}
 
 const MAX: usize = usize::MAX;
 const MOST_COMMANDS: usize = 64;
@@ -45,7 +21,8 @@ pub struct Generator {
 
 impl Generator {
     pub fn new(seed: u64) -> Self {
-        let mut generator = Self { random: Random(seed), machine: Machine::new(), harts: 0, planned: VecDeque::new(), recent: Vec::new() };
+        let mut generator =
+            Self { random: Random::new(seed), machine: Machine::new(), harts: 0, planned: VecDeque::new(), recent: Vec::new() };
         generator.plan(Request::Home);
         generator.bad_line();
         generator.plan(Request::Steal { hart: 0, hardware_hart: 0 });

@@ -247,7 +247,10 @@ impl Machine {
             }
             Request::Resume { hardware_hart } => match self.flow(hardware_hart).resume_confidential_hart_execution() {
                 Resumed::Off => Answer::Off,
-                Resumed::Operation(operation) => operation_answer(operation),
+                Resumed::Operation(operation) => {
+                    let [kind, x, y] = operation_numbers(&operation);
+                    Answer::Operation(kind, x, y)
+                }
                 Resumed::Run => Answer::Run,
             },
             Request::Broadcast { hardware_hart, command } => {
@@ -332,7 +335,7 @@ enum Done {
 }
 
 /// Document 01's number for an error of the Rust.
-fn number_of(error: Error) -> usize {
+pub fn number_of(error: Error) -> usize {
     match error {
         Error::InvalidHartId() => 1,
         Error::HartAlreadyRunning() => 2,
@@ -364,7 +367,8 @@ fn asserted(request: &Request) -> usize {
     }
 }
 
-fn state_number(state: &HartLifecycleState) -> usize {
+/// Document 01's number for a lifecycle state.
+pub fn state_number(state: &HartLifecycleState) -> usize {
     match state {
         HartLifecycleState::Started => 0,
         HartLifecycleState::Stopped => 1,
@@ -373,7 +377,8 @@ fn state_number(state: &HartLifecycleState) -> usize {
     }
 }
 
-fn operation(kind: usize, x: usize, y: usize) -> Option<ResumableOperation> {
+/// The operation of a kind, or nothing where there is no such kind.
+pub fn operation(kind: usize, x: usize, y: usize) -> Option<ResumableOperation> {
     match kind {
         1 => Some(ResumableOperation::SbiRequest(x, y)),
         2 => Some(ResumableOperation::ResumeHart(x, y)),
@@ -384,13 +389,14 @@ fn operation(kind: usize, x: usize, y: usize) -> Option<ResumableOperation> {
     }
 }
 
-fn operation_answer(operation: ResumableOperation) -> Answer {
-    match operation {
-        ResumableOperation::SbiRequest(x, y) => Answer::Operation(1, x, y),
-        ResumableOperation::ResumeHart(x, y) => Answer::Operation(2, x, y),
-        ResumableOperation::MmioLoad(x, y) => Answer::Operation(3, x, y),
-        ResumableOperation::MmioStore(x, y) => Answer::Operation(4, x, y),
-        ResumableOperation::SharePage(x, y) => Answer::Operation(5, x, y),
+/// An operation's kind and its two numbers.
+pub fn operation_numbers(operation: &ResumableOperation) -> [usize; 3] {
+    match *operation {
+        ResumableOperation::SbiRequest(x, y) => [1, x, y],
+        ResumableOperation::ResumeHart(x, y) => [2, x, y],
+        ResumableOperation::MmioLoad(x, y) => [3, x, y],
+        ResumableOperation::MmioStore(x, y) => [4, x, y],
+        ResumableOperation::SharePage(x, y) => [5, x, y],
     }
 }
 
