@@ -1,6 +1,7 @@
 -- What belongs to no one function of `table_rows`, and what other crates use.
 pub mod PickLaws
 pub mod EveryLaws
+pub mod SomeLaws
 pub mod RowLaws
 pub mod PartLaws
 pub mod ZeroLaws

@@ -1,6 +1,6 @@
--- A choice by a test, and a test of every number below n.
+-- A choice by a test, and a test of every or of some number below n.
 use Prim.Native.Nat.{ℕ, zero, suc}
-use mathlib.Core.Bool.{Bool, true, false, _&&_}
+use mathlib.Core.Bool.{Bool, true, false, _&&_, not}
 use mathlib.Core.List.{List}
 use lib.ListN.{length, getD}
 use lib.Dec.{eqb}
@@ -18,6 +18,10 @@ unless b c = pick b false c
 unfoldable pub every : (ℕ → Bool) → ℕ → Bool
 every f zero = true
 every f (suc n) = every f n && f n
+
+-- f holds of some number below n: not every one fails it
+abbrev pub some : (ℕ → Bool) → ℕ → Bool
+some f n = not (every (λ i. not (f i)) n)
 
 -- each word is 0
 unfoldable pub allZero : List ℕ → Bool

@@ -1,0 +1,148 @@
+//! The proved functions, as Rust calls them. Slices have the lengths that the functions require; `assert!` holds a caller to that.
+use oracle::driver::Command;
+
+/// Words of a hart's row, of a queue's row, of a region, and how many regions a table has room for.
+pub const HART_WORDS: usize = 12;
+pub const QUEUE_WORDS: usize = 385;
+pub const REGION_WORDS: usize = 2;
+pub const MOST_REGIONS: usize = 1024;
+
+#[rustfmt::skip]
+unsafe extern "C" {
+    fn leaf_is_well_formed(command: *const u64, words: usize) -> bool;
+    fn leaf_is_hart_selected(command: *const u64, words: usize, hart: u64) -> bool;
+    fn leaf_offer(queue: *mut u64, words: usize, command: *const u64, command_words: usize) -> u64;
+    fn leaf_new_region(region: *mut u64, words: usize, start: u64, size: u64) -> u64;
+    fn leaf_add(regions: *mut u64, words: usize, count: u64, base: u64, end: u64) -> u64;
+    fn leaf_remove(regions: *mut u64, words: usize, count: u64, base: u64, end: u64) -> u64;
+    fn leaf_is_mmio_region_defined(regions: *const u64, words: usize, count: u64, base: u64, end: u64) -> bool;
+    fn leaf_dummy(row: *mut u64, words: usize, hardware_hart: u64);
+    fn leaf_from_vm_hart_reset(row: *mut u64, words: usize, hart: u64);
+    fn leaf_from_vm_hart(row: *mut u64, words: usize, hart: u64, pc: u64, a1: u64, vsatp: u64, vsstatus: u64);
+    fn leaf_start(row: *mut u64, words: usize, address: u64, opaque: u64) -> u64;
+    fn leaf_suspend(row: *mut u64, words: usize) -> u64;
+    fn leaf_stop(row: *mut u64, words: usize) -> u64;
+    fn leaf_wake(row: *mut u64, words: usize, address: u64, opaque: u64) -> u64;
+    fn leaf_off(row: *mut u64, words: usize) -> u64;
+}
+
+fn numbers(command: Command) -> [u64; 6] {
+    command.numbers().map(|number| number as u64)
+}
+
+pub fn is_well_formed(command: Command) -> bool {
+    let command = numbers(command);
+    unsafe { leaf_is_well_formed(command.as_ptr(), command.len()) }
+}
+
+pub fn is_hart_selected(command: Command, hart: u64) -> bool {
+    let command = numbers(command);
+    unsafe { leaf_is_hart_selected(command.as_ptr(), command.len(), hart) }
+}
+
+/// One hart's queue of commands.
+#[derive(Clone, PartialEq, Debug)]
+pub struct Queue(pub [u64; QUEUE_WORDS]);
+
+impl Queue {
+    pub fn offer(&mut self, command: Command) -> u64 {
+        let command = numbers(command);
+        unsafe { leaf_offer(self.0.as_mut_ptr(), QUEUE_WORDS, command.as_ptr(), command.len()) }
+    }
+}
+
+/// The region from `start` on, or the number of a refusal.
+pub fn new_region(start: u64, size: u64) -> Result<[u64; 2], u64> {
+    let mut region = [0; REGION_WORDS];
+    match unsafe { leaf_new_region(region.as_mut_ptr(), REGION_WORDS, start, size) } {
+        0 => Ok(region),
+        number => Err(number),
+    }
+}
+
+/// The region table and its count.
+#[derive(Clone, PartialEq, Debug)]
+pub struct Regions {
+    pub words: Vec<u64>,
+    pub count: u64,
+}
+
+impl Regions {
+    pub fn new() -> Self {
+        Self { words: vec![0; MOST_REGIONS * REGION_WORDS], count: 0 }
+    }
+
+    pub fn add(&mut self, [base, end]: [u64; 2]) -> u64 {
+        self.check();
+        let number = unsafe { leaf_add(self.words.as_mut_ptr(), self.words.len(), self.count, base, end) };
+        self.count += (number == 0) as u64;
+        number
+    }
+
+    pub fn remove(&mut self, [base, end]: [u64; 2]) {
+        self.check();
+        self.count = unsafe { leaf_remove(self.words.as_mut_ptr(), self.words.len(), self.count, base, end) };
+    }
+
+    pub fn is_mmio_region_defined(&self, [base, end]: [u64; 2]) -> bool {
+        self.check();
+        unsafe { leaf_is_mmio_region_defined(self.words.as_ptr(), self.words.len(), self.count, base, end) }
+    }
+
+    fn check(&self) {
+        assert!(self.words.len() >= MOST_REGIONS * REGION_WORDS && self.count <= MOST_REGIONS as u64);
+    }
+}
+
+impl Default for Regions {
+    fn default() -> Self {
+        Self::new()
+    }
+}
+
+/// A hart's row.
+#[derive(Clone, Copy, PartialEq, Debug)]
+pub struct Row(pub [u64; HART_WORDS]);
+
+impl Row {
+    /// A row that something else stood in before.
+    const USED: Self = Self([u64::MAX; HART_WORDS]);
+
+    pub fn dummy(hardware_hart: u64) -> Self {
+        let mut row = Self::USED;
+        unsafe { leaf_dummy(row.0.as_mut_ptr(), HART_WORDS, hardware_hart) };
+        row
+    }
+
+    pub fn from_vm_hart_reset(hart: u64) -> Self {
+        let mut row = Self::USED;
+        unsafe { leaf_from_vm_hart_reset(row.0.as_mut_ptr(), HART_WORDS, hart) };
+        row
+    }
+
+    pub fn from_vm_hart(hart: u64, pc: u64, a1: u64, vsatp: u64, vsstatus: u64) -> Self {
+        let mut row = Self::USED;
+        unsafe { leaf_from_vm_hart(row.0.as_mut_ptr(), HART_WORDS, hart, pc, a1, vsatp, vsstatus) };
+        row
+    }
+
+    pub fn start(&mut self, address: u64, opaque: u64) -> u64 {
+        unsafe { leaf_start(self.0.as_mut_ptr(), HART_WORDS, address, opaque) }
+    }
+
+    pub fn suspend(&mut self) -> u64 {
+        unsafe { leaf_suspend(self.0.as_mut_ptr(), HART_WORDS) }
+    }
+
+    pub fn stop(&mut self) -> u64 {
+        unsafe { leaf_stop(self.0.as_mut_ptr(), HART_WORDS) }
+    }
+
+    pub fn wake(&mut self, address: u64, opaque: u64) -> u64 {
+        unsafe { leaf_wake(self.0.as_mut_ptr(), HART_WORDS, address, opaque) }
+    }
+
+    pub fn off(&mut self) -> u64 {
+        unsafe { leaf_off(self.0.as_mut_ptr(), HART_WORDS) }
+    }
+}

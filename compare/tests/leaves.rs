@@ -1,0 +1,300 @@
+//! Each leaf beside the Rust that it is ported from: selection, queues, regions, and a hart's registers and lifecycle.
+use compare::{MOST_REGIONS, QUEUE_WORDS, Queue, Regions, Row, is_hart_selected, is_well_formed, new_region};
+use oracle::core::architecture::GeneralPurposeRegister;
+use oracle::core::architecture::riscv::sbi::NaclSharedMemory;
+use oracle::core::control_data::{ConfidentialHart, ConfidentialVm, ConfidentialVmId, ConfidentialVmMmioRegion};
+use oracle::core::memory_layout::ConfidentialVmPhysicalAddress;
+use oracle::driver::{Command, Random, number_of, operation, operation_numbers, state_number};
+use oracle::error::Error;
+use std::panic::{AssertUnwindSafe, catch_unwind};
+
+const MAX: usize = usize::MAX;
+const EDGES: [usize; 16] = [0, 1, 2, 62, 63, 64, 65, 127, 1 << 32, (1 << 63) - 1, 1 << 63, MAX - 65, MAX - 64, MAX - 63, MAX - 1, MAX];
+
+fn number(result: Result<(), Error>) -> u64 {
+    result.map_or_else(|error| number_of(error) as u64, |()| 0)
+}
+
+/// A number at an edge, or any.
+fn any(random: &mut Random) -> usize {
+    if random.one_in(2) { random.of(&EDGES) } else { random.next() }
+}
+
+fn command(random: &mut Random) -> Command {
+    let kind = random.below(8);
+    let mut zero_or_any = || if random.one_in(3) { 0 } else { any(random) };
+    Command { kind, mask: zero_or_any(), base: zero_or_any(), start: zero_or_any(), size: zero_or_any(), tag: zero_or_any() }
+}
+
+#[test]
+fn a_command_selects_what_the_rust_selects() {
+    let masks: Vec<usize> = (0..64).map(|bit| 1 << bit).chain(EDGES).chain((0..64).map(|bit| !(1 << bit))).collect();
+    for &mask in &masks {
+        for base in EDGES {
+            for command in (1..=5).map(|kind| Command { kind, mask, base, ..Command::default() }) {
+                let rust = command.to_remote_command().expect("well formed");
+                let around = (0..=67).map(|beyond| base.wrapping_add(beyond).wrapping_sub(2));
+                for hart in around.chain(EDGES) {
+                    assert_eq!(is_hart_selected(command, hart as u64), rust.is_hart_selected(hart), "{command:?} {hart}");
+                }
+            }
+        }
+    }
+    let shutdown = Command { kind: 6, ..Command::default() };
+    let rust = shutdown.to_remote_command().expect("well formed");
+    for hart in EDGES {
+        assert_eq!(is_hart_selected(shutdown, hart as u64), rust.is_hart_selected(hart));
+    }
+}
+
+#[test]
+fn a_command_is_well_formed_when_the_rust_has_a_place_for_its_numbers() {
+    for kind in (0..=8).chain([MAX]) {
+        for zeros in 0..32 {
+            for value in [1, 1 << 63, MAX] {
+                let at = |place: usize| if zeros >> place & 1 == 1 { 0 } else { value };
+                let command = Command { kind, mask: at(0), base: at(1), start: at(2), size: at(3), tag: at(4) };
+                assert_eq!(is_well_formed(command), command.to_remote_command().is_some(), "{command:?}");
+            }
+        }
+    }
+    let random = &mut Random::new(1);
+    for _ in 0..100_000 {
+        let command = command(random);
+        assert_eq!(is_well_formed(command), command.to_remote_command().is_some(), "{command:?}");
+    }
+}
+
+/// A VM of two harts: hart 0 is stopped and never reached, hart 1 is started.
+fn two_harts() -> ConfidentialVm {
+    let address = ConfidentialVmPhysicalAddress::new(0).expect("never fails");
+    let started = ConfidentialHart::from_vm_hart(1, 0, &address, &NaclSharedMemory { vsatp: 0, vsstatus: 0 });
+    ConfidentialVm::new(ConfidentialVmId::new(1), vec![ConfidentialHart::from_vm_hart_reset(0), started])
+}
+
+/// The words of hart 1's queue.
+fn queue_words(vm: &mut ConfidentialVm) -> [u64; QUEUE_WORDS] {
+    let mut words = [0; QUEUE_WORDS];
+    vm.try_confidential_hart_remote_commands(1, |queue| {
+        words[0] = queue.len() as u64;
+        for (place, command) in words[1..].chunks_mut(6).zip(queue.iter()) {
+            place.copy_from_slice(&Command::of_remote_command(command).numbers().map(|number| number as u64));
+        }
+        Ok(())
+    })
+    .expect("hart 1 has a queue");
+    words
+}
+
+#[test]
+fn a_queue_takes_what_the_rusts_takes() {
+    let random = &mut Random::new(2);
+    let mut seen = [0; 3];
+    for _ in 0..200 {
+        let mut vm = two_harts();
+        let mut queue = Queue([0; QUEUE_WORDS]);
+        // Commands that select hart 1, and more of them than a queue holds.
+        let pool: Vec<Command> = (0..120)
+            .map(|_| match random.below(8) {
+                0 => Command { kind: 6, ..Command::default() },
+                1 => Command { kind: 1, mask: random.next() | 2, base: 0, ..Command::default() },
+                2 => Command { kind: 2, mask: random.next() | 1, base: 1, ..Command::default() },
+                3 => Command { kind: 3, mask: any(random), base: MAX, start: any(random), size: random.below(2), tag: 0 },
+                kind => Command { kind: 4 + kind % 2, mask: 2, base: 0, start: random.below(3), size: random.below(3), tag: any(random) },
+            })
+            .collect();
+        for _ in 0..240 {
+            let command = random.of(&pool);
+            let before = queue.clone();
+            let rust = vm.broadcast_remote_command(0, command.to_remote_command().expect("well formed")).map(|_| ());
+            assert_eq!(queue.offer(command), number(rust), "{command:?} {before:?}");
+            assert_eq!(queue.0, queue_words(&mut vm), "{command:?} {before:?}");
+            let outcome = match (queue == before, before.0[0]) {
+                (false, _) => 0,
+                (true, 64) => 1,
+                (true, _) => 2,
+            };
+            seen[outcome] += 1;
+        }
+    }
+    assert!(seen.iter().all(|&times| times > 1000), "queued, refused and already there: {seen:?}");
+}
+
+/// A VM in which these regions were added in order: it equals another exactly when the other has the same regions in the same order.
+fn with_regions(regions: &Regions) -> ConfidentialVm {
+    let mut vm = two_harts();
+    let (standing, unused) = regions.words.split_at(2 * regions.count as usize);
+    assert!(unused.iter().all(|&word| word == 0), "an unused place is not 0");
+    for place in standing.chunks(2) {
+        let (base, end) = (place[0] as usize, place[1] as usize);
+        vm.add_mmio_region(ConfidentialVmMmioRegion::new(base, end - base).expect("it ends where it ended")).expect("none overlap");
+    }
+    vm
+}
+
+#[test]
+fn regions_come_and_go_as_in_the_rust() {
+    let random = &mut Random::new(3);
+    let mut answers = [0; 12];
+    for round in 0..300 {
+        let mut vm = two_harts();
+        let mut regions = Regions::new();
+        let unit = random.of(&[1, 8, 4096]);
+        for _ in 0..120 {
+            let start = match random.below(8) {
+                0 => any(random),
+                1 => MAX - random.below(4),
+                _ => random.below(64) * unit,
+            };
+            let size = if random.one_in(12) { any(random) } else { random.below(6) * unit };
+            let Ok(region) = new_region(start as u64, size as u64) else {
+                assert_eq!(new_region(start as u64, size as u64), Err(11));
+                assert_eq!(start.checked_add(size), None);
+                answers[11] += 1;
+                continue;
+            };
+            let rust = ConfidentialVmMmioRegion::new(start, size).expect("making an address never fails");
+            assert_eq!(region, [rust.base_address.usize() as u64, rust.one_past_the_end_address.usize() as u64]);
+            assert_eq!(regions.is_mmio_region_defined(region), vm.is_mmio_region_defined(&rust), "{round} {region:?} {regions:?}");
+            if random.one_in(4) {
+                regions.remove(region);
+                vm.remove_mmio_region(&rust);
+            } else {
+                let answer = regions.add(region);
+                assert_eq!(answer, number(vm.add_mmio_region(rust)), "{round} {region:?}");
+                answers[answer as usize] += 1;
+            }
+            assert_eq!(with_regions(&regions), vm, "{round} {region:?}");
+        }
+    }
+    assert!([0, 10, 11].iter().all(|&number: &usize| answers[number] > 100), "{answers:?}");
+}
+
+#[test]
+fn the_1025th_region_is_refused_as_in_the_rust() {
+    let mut vm = two_harts();
+    let mut regions = Regions::new();
+    for i in 0..=MOST_REGIONS {
+        let region = new_region(8 * i as u64, 8).expect("in range");
+        let rust = vm.add_mmio_region(ConfidentialVmMmioRegion::new(8 * i, 8).expect("in range"));
+        assert_eq!(regions.add(region), number(rust), "{i}");
+    }
+    // Full comes before overlapping.
+    let again = vm.add_mmio_region(ConfidentialVmMmioRegion::new(0, 8).expect("in range"));
+    assert_eq!((regions.add([0, 8]), 9), (number(again), 9));
+    assert_eq!(with_regions(&regions), vm);
+    // One region that overlaps every other second one, one that overlaps all.
+    for (base, end) in [(4, 12), (8 * 500 + 7, 8 * 700 + 1), (0, u64::MAX)] {
+        regions.remove([base, end]);
+        vm.remove_mmio_region(&ConfidentialVmMmioRegion::new(base as usize, (end - base) as usize).expect("in range"));
+        assert_eq!(with_regions(&regions), vm);
+    }
+    assert_eq!(regions, Regions::new());
+}
+
+/// The words of a hart of the Rust.
+fn hart_words(hart: &ConfidentialHart) -> Row {
+    let [kind, x, y] = hart.clone().take_resumable_operation().map_or([0; 3], |operation| operation_numbers(&operation));
+    let (gprs, csrs) = (hart.gprs(), hart.csrs());
+    Row([
+        !hart.is_dummy() as usize,
+        hart.confidential_hart_id(),
+        state_number(hart.lifecycle_state()),
+        kind,
+        x,
+        y,
+        gprs.read(GeneralPurposeRegister::a0),
+        gprs.read(GeneralPurposeRegister::a1),
+        csrs.mepc.read_from_main_memory(),
+        csrs.vsatp.read_from_main_memory(),
+        csrs.mstatus.read_from_main_memory(),
+        csrs.vsstatus.read_from_main_memory(),
+    ]
+    .map(|word| word as u64))
+}
+
+fn made(mut hart: ConfidentialHart) -> ConfidentialHart {
+    hart.set_confidential_vm_id(ConfidentialVmId::new(1));
+    hart
+}
+
+#[test]
+fn harts_are_made_as_in_the_rust() {
+    let random = &mut Random::new(4);
+    for _ in 0..10_000 {
+        let [id, pc, a1, vsatp, vsstatus] = [(); 5].map(|()| any(random));
+        assert_eq!(Row::dummy(id as u64), hart_words(&ConfidentialHart::dummy(id)));
+        assert_eq!(Row::from_vm_hart_reset(id as u64), hart_words(&made(ConfidentialHart::from_vm_hart_reset(id))));
+        let address = ConfidentialVmPhysicalAddress::new(a1).expect("never fails");
+        let rust = ConfidentialHart::from_vm_hart(id, pc, &address, &NaclSharedMemory { vsatp, vsstatus });
+        let ours = Row::from_vm_hart(id as u64, pc as u64, a1 as u64, vsatp as u64, vsstatus as u64);
+        assert_eq!(ours, hart_words(&made(rust)));
+    }
+}
+
+/// A real hart in a lifecycle state, with any operation and any registers.
+fn hart_in(state: usize, random: &mut Random) -> ConfidentialHart {
+    let mut hart = made(ConfidentialHart::from_vm_hart_reset(any(random)));
+    let moved = match state {
+        0 => hart.transition_from_stopped_to_started(0, 0),
+        1 => Ok(()),
+        2 => hart.transition_from_stopped_to_started(0, 0).and_then(|()| hart.transition_from_started_to_suspended()),
+        _ => Ok(hart.transition_to_shutdown()),
+    };
+    moved.expect("each state is reached so");
+    let gprs = hart.gprs_mut();
+    gprs.write(GeneralPurposeRegister::a0, any(random));
+    gprs.write(GeneralPurposeRegister::a1, any(random));
+    let csrs = hart.csrs_mut();
+    csrs.mepc.save_value_in_main_memory(any(random));
+    csrs.vsatp.save_value_in_main_memory(any(random));
+    csrs.mstatus.save_value_in_main_memory(any(random));
+    csrs.vsstatus.save_value_in_main_memory(any(random));
+    if let Some(operation) = operation(random.below(6), any(random), any(random)) {
+        hart.set_resumable_operation(operation);
+    }
+    hart
+}
+
+#[test]
+fn a_hart_changes_as_in_the_rust() {
+    let random = &mut Random::new(5);
+    for round in 0..100_000 {
+        let (state, change) = (round % 4, round / 4 % 5);
+        let mut rust = hart_in(state, random);
+        let before = hart_words(&rust);
+        let mut ours = before;
+        let (address, opaque) = (any(random), any(random));
+        let (number_of_ours, result) = match change {
+            0 => (ours.start(address as u64, opaque as u64), rust.transition_from_stopped_to_started(address, opaque)),
+            1 => (ours.suspend(), rust.transition_from_started_to_suspended()),
+            2 => (ours.stop(), rust.transition_from_started_to_stopped()),
+            3 => (ours.wake(address as u64, opaque as u64), rust.transition_from_suspended_to_started(address, opaque)),
+            _ => (ours.off(), Ok(rust.transition_to_shutdown())),
+        };
+        assert_eq!(number_of_ours, number(result), "{before:?} {change}");
+        assert_eq!(ours, hart_words(&rust), "{before:?} {change}");
+    }
+}
+
+#[test]
+fn a_dummy_changes_nowhere() {
+    for hardware_hart in EDGES {
+        let mut rust = ConfidentialHart::dummy(hardware_hart);
+        let before = hart_words(&rust);
+        let mut ours = before;
+        assert_eq!(ours.start(1, 2), number(rust.transition_from_stopped_to_started(1, 2)));
+        // The Rust asserts in the other four.
+        let asserts: [fn(&mut ConfidentialHart); 4] = [
+            |hart| drop(hart.transition_from_started_to_suspended()),
+            |hart| drop(hart.transition_from_started_to_stopped()),
+            |hart| drop(hart.transition_from_suspended_to_started(1, 2)),
+            |hart| hart.transition_to_shutdown(),
+        ];
+        for change in asserts {
+            assert!(catch_unwind(AssertUnwindSafe(|| change(&mut rust))).is_err());
+        }
+        assert_eq!([ours.suspend(), ours.stop(), ours.wake(1, 2), ours.off()], [16; 4]);
+        assert_eq!((ours, hart_words(&rust)), (before, before));
+    }
+}

@@ -1,0 +1,4 @@
+-- What belongs to no one function of `confidential_hart`, and what other crates use.
+pub mod HartLaws
+pub mod StartLaws
+pub mod TransitionLaws

@@ -1,0 +1,82 @@
+-- The registers of a hart that starts and of one that wakes.
+use Prim.Native.Nat.{ℕ}
+use mathlib.Core.Path.{_≡_}
+use mathlib.Core.Logic.{_≢_}
+use mathlib.Core.List.{List, [], _∷_}
+use lib.ListN.{length, getD, set}
+use Rattle.bits.specs.Bit.{bit, clearBit}
+
+-- the places of the saved registers
+abbrev pub a0 : ℕ
+a0 = 0
+
+abbrev pub a1 : ℕ
+a1 = 1
+
+abbrev pub mepc : ℕ
+mepc = 2
+
+abbrev pub vsatp : ℕ
+vsatp = 3
+
+abbrev pub mstatus : ℕ
+mstatus = 4
+
+abbrev pub vsstatus : ℕ
+vsstatus = 5
+
+-- RISC-V Privileged, chapter "Supervisor-Level ISA", "Supervisor Status Register (sstatus)": SIE is bit 1. Chapter "Hypervisor Extension", "Virtual
+-- Supervisor Status Register (vsstatus)": its bits are those of sstatus.
+abbrev pub sie : ℕ
+sie = 1
+
+-- RISC-V Privileged, chapter "Machine-Level ISA", "Machine Status Registers (mstatus and mstatush)": SPIE is bit 5, MPIE is bit 7
+abbrev pub spie : ℕ
+spie = 5
+
+abbrev pub mpie : ℕ
+mpie = 7
+
+-- registers after writes to some of them, each a place and its new value; the others are as they were
+abbrev pub written : List (ℕ × ℕ) → List ℕ → List ℕ
+written [] registers = registers
+written (w ∷ ws) registers = written ws (set registers (w .0) (w .1))
+
+-- start, as `HartStarted` below has it
+unfoldable pub startRegisters : ℕ → ℕ → ℕ → List ℕ → List ℕ
+startRegisters id address opaque registers =
+    written
+    ((vsatp, 0)
+    ∷ (mstatus, clearBit mpie (clearBit spie (getD registers mstatus 0)))
+    ∷ (vsstatus, clearBit sie (getD registers vsstatus 0))
+    ∷ (a0, id)
+    ∷ (a1, opaque)
+    ∷ (mepc, address)
+    ∷ [])
+    registers
+
+-- wake, as `HartWoken` below has it
+unfoldable pub wakeRegisters : ℕ → ℕ → List ℕ → List ℕ
+wakeRegisters address opaque registers = written ((a1, opaque) ∷ (mepc, address) ∷ []) registers
+
+-- RISC-V SBI 2.0, chapter 9 "Hart State Management Extension", "Function: HART start": the hart starts at start_addr with satp 0, sstatus.SIE 0, a0 its
+-- hartid and a1 the opaque number; of a virtual hart these are vsatp and vsstatus. Interrupts are off in mstatus too. What SBI leaves undefined is as it was.
+pub record HartStarted (id address opaque : ℕ) (before after : List ℕ) : Type 0 where
+  pub as-many : length after ≡ length before
+  pub satp-zero : getD after vsatp 0 ≡ 0
+  pub sie-clear : bit sie (getD after vsstatus 0) ≡ 0
+  pub vsstatus-kept : (j : ℕ) → j ≢ sie → bit j (getD after vsstatus 0) ≡ bit j (getD before vsstatus 0)
+  pub spie-clear : bit spie (getD after mstatus 0) ≡ 0
+  pub mpie-clear : bit mpie (getD after mstatus 0) ≡ 0
+  pub mstatus-kept : (j : ℕ) → j ≢ spie → j ≢ mpie → bit j (getD after mstatus 0) ≡ bit j (getD before mstatus 0)
+  pub a0-hartid : getD after a0 0 ≡ id
+  pub a1-opaque : getD after a1 0 ≡ opaque
+  pub at-address : getD after mepc 0 ≡ address
+
+-- RISC-V SBI 2.0, the same chapter, "Function: HART suspend": the hart goes on at resume_addr with a1 the opaque number. SBI has it go on with satp 0,
+-- sstatus.SIE 0 and a0 its hartid too; here, as in the Rust, all other registers are as they were.
+pub record HartWoken (address opaque : ℕ) (before after : List ℕ) : Type 0 where
+  pub as-many : length after ≡ length before
+  pub a1-opaque : getD after a1 0 ≡ opaque
+  pub at-address : getD after mepc 0 ≡ address
+  pub others-kept : (j : ℕ) → j ≢ a1 → j ≢ mepc → getD after j 0 ≡ getD before j 0

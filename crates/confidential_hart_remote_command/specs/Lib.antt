@@ -1,0 +1,3 @@
+-- The definitions that the contracts of `confidential_hart_remote_command` cite.
+pub mod Command
+pub mod Selection

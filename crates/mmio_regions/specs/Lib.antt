@@ -1,0 +1,3 @@
+-- The definitions that the contracts of `mmio_regions` cite.
+pub mod Regions
+pub mod Table
