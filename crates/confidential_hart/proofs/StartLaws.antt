@@ -8,16 +8,12 @@ use lib.ListN.{length, getD, set, length-set}
 use lib.Seq.{getD-set-same, getD-set-other, ext-getD}
 use lib.Dec.{eqb}
 use borrow.Author.Tests.{eqb-true, eqb-false}
-use Rattle.error.specs.Error.{done}
 use Rattle.bits.specs.Bit.{bit, clearBit}
 use Rattle.bits.proofs.BitLaws.{bits-ext, clear-same, clear-other}
-use Rattle.table_rows.specs.Choice.{pick}
 use Rattle.table_rows.proofs.PickLaws.{by-test}
 use Rattle.table_rows.proofs.RowLaws.{words-all}
-use Rattle.confidential_hart.specs.Hart.{registerCount, theVm, idleHart, wellFormed, initialMstatus}
-use Rattle.hart_lifecycle_state.specs.Lifecycle.{started, stopped, only}
+use Rattle.confidential_hart.specs.Hart.{registerCount}
 use Rattle.confidential_hart.specs.HartStart.{a1, mepc, mstatus, vsstatus, sie, spie, mpie, startRegisters, wakeRegisters, HartStarted, HartWoken}
-use Rattle.confidential_hart.specs.Transition.{applied, transition, afterStart}
 
 -- ---- a number with a bit cleared is the only one with that bit 0 and the other bits as they were
 
@@ -75,7 +71,7 @@ module _ (before : List ℕ) (six : length before ≡ registerCount) where
   -- ---- wake
 
   module _ (address opaque : ℕ) where
-    -- a hart wakes as SBI's hart suspend says
+    -- the registers of a wake have the facts of `HartWoken`
     pub wake-woken : HartWoken address opaque before (wakeRegisters address opaque before)
     unfolding wakeRegisters
     wake-woken =
@@ -108,10 +104,3 @@ start-length id address opaque before = simp length-set
 pub wake-length : (address opaque : ℕ) (before : List ℕ) → length (wakeRegisters address opaque before) ≡ length before
 unfolding wakeRegisters
 wake-length address opaque before = simp length-set
-
--- P7: a start on vsstatus 7 leaves 5, and on the mstatus of setup 549755815938
-pub start-status : (id address opaque a b c d : ℕ)
-    → afterStart address opaque (idleHart theVm id stopped (a ∷ b ∷ c ∷ d ∷ initialMstatus ∷ 7 ∷ []))
-    ≡ record { number = done; hart = idleHart theVm id started (id ∷ opaque ∷ address ∷ 0 ∷ 549755815938 ∷ 5 ∷ []) }
-unfolding transition wellFormed pick only applied startRegisters clearBit
-start-status id address opaque a b c d = refl

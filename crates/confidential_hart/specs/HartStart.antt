@@ -25,12 +25,12 @@ mstatus = 4
 abbrev pub vsstatus : ℕ
 vsstatus = 5
 
--- RISC-V Privileged, chapter "Supervisor-Level ISA", "Supervisor Status Register (sstatus)": SIE is bit 1. Chapter "Hypervisor Extension", "Virtual
--- Supervisor Status Register (vsstatus)": its bits are those of sstatus.
+-- RISC-V Privileged (20211203), chapter "Supervisor-Level ISA", "Supervisor Status Register (sstatus)": SIE is bit 1. Chapter "Hypervisor
+-- Extension", "Virtual Supervisor Status Register (vsstatus)": its bits are those of sstatus.
 abbrev pub sie : ℕ
 sie = 1
 
--- RISC-V Privileged, chapter "Machine-Level ISA", "Machine Status Registers (mstatus and mstatush)": SPIE is bit 5, MPIE is bit 7
+-- RISC-V Privileged (20211203), chapter "Machine-Level ISA", "Machine Status Registers (mstatus and mstatush)": SPIE is bit 5, MPIE is bit 7
 abbrev pub spie : ℕ
 spie = 5
 
@@ -42,7 +42,7 @@ abbrev pub written : List (ℕ × ℕ) → List ℕ → List ℕ
 written [] registers = registers
 written (w ∷ ws) registers = written ws (set registers (w .0) (w .1))
 
--- start, as `HartStarted` below has it
+-- start: vsatp 0, mstatus bits 5 and 7 to 0, vsstatus bit 1 to 0, a0 the hart's number, a1 opaque, mepc address
 unfoldable pub startRegisters : ℕ → ℕ → ℕ → List ℕ → List ℕ
 startRegisters id address opaque registers =
     written
@@ -55,12 +55,13 @@ startRegisters id address opaque registers =
     ∷ [])
     registers
 
--- wake, as `HartWoken` below has it
+-- wake: a1 and mepc only
 unfoldable pub wakeRegisters : ℕ → ℕ → List ℕ → List ℕ
 wakeRegisters address opaque registers = written ((a1, opaque) ∷ (mepc, address) ∷ []) registers
 
--- RISC-V SBI 2.0, chapter 9 "Hart State Management Extension", "Function: HART start": the hart starts at start_addr with satp 0, sstatus.SIE 0, a0 its
--- hartid and a1 the opaque number; of a virtual hart these are vsatp and vsstatus. Interrupts are off in mstatus too. What SBI leaves undefined is as it was.
+-- the facts of a start. RISC-V SBI 2.0, chapter 9 "Hart State Management Extension", on hart start, asks for satp 0, sstatus.SIE 0, a0 the hartid,
+-- a1 the opaque number, and execution at start_addr; a virtual hart's satp and sstatus are vsatp and vsstatus. SPIE and MPIE of mstatus are
+-- cleared as in the Rust. What SBI leaves undefined is as it was.
 pub record HartStarted (id address opaque : ℕ) (before after : List ℕ) : Type 0 where
   pub as-many : length after ≡ length before
   pub satp-zero : getD after vsatp 0 ≡ 0
@@ -73,8 +74,8 @@ pub record HartStarted (id address opaque : ℕ) (before after : List ℕ) : Typ
   pub a1-opaque : getD after a1 0 ≡ opaque
   pub at-address : getD after mepc 0 ≡ address
 
--- RISC-V SBI 2.0, the same chapter, "Function: HART suspend": the hart goes on at resume_addr with a1 the opaque number. SBI has it go on with satp 0,
--- sstatus.SIE 0 and a0 its hartid too; here, as in the Rust, all other registers are as they were.
+-- the facts of a wake. RISC-V SBI 2.0, the same chapter, on a non-retentive hart suspend, asks for a1 the opaque number and execution at
+-- resume_addr, and for satp 0, sstatus.SIE 0 and a0 the hartid too; as in the Rust all other registers are as they were.
 pub record HartWoken (address opaque : ℕ) (before after : List ℕ) : Type 0 where
   pub as-many : length after ≡ length before
   pub a1-opaque : getD after a1 0 ≡ opaque

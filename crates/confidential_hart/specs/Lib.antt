@@ -1,4 +1,4 @@
--- The definitions that the contracts of `confidential_hart` cite.
+-- The definitions that the contracts and the laws of `confidential_hart` cite.
 pub mod Hart
 pub mod HartStart
 pub mod Transition

@@ -1,8 +1,8 @@
 // SPDX-FileCopyrightText: 2023 IBM Corporation
 // SPDX-FileContributor: Wojciech Ozga <woz@zurich.ibm.com>, IBM Research - Zurich
 // SPDX-License-Identifier: Apache-2.0
-// Changed: ported to Rattle from core/control_data/confidential_hart.rs, with the six registers that the hart tables need and each
-// transition as a step by value.
+// Changed: ported to Rattle from core/control_data/confidential_hart.rs, with numbers of core/architecture/riscv/specification.rs. A record
+// has the six registers that the hart tables need, and each transition is a step by value.
 ghost use mathlib.Core.Path.{_≡_};
 ghost use Prim.Native.Nat.{_<_};
 ghost use lib.ListN.{length};
@@ -84,8 +84,9 @@ pub struct Transition {
     pub hart: ConfidentialHart,
 }
 
-// Whether a record of these words, with any number, is as it must be. No test waits for another, which is faster than `&&`.
-pub fn are_well_formed(
+// Whether a record of these parts is as it must be. Any number passes, so the contract has 0 in its place. No test waits for another, which
+// is faster than `&&`.
+pub fn are_parts_well_formed(
     vm: u64,
     lifecycle: u64,
     operation: u64,
@@ -166,7 +167,7 @@ impl ConfidentialHart {
         ensures { λ r. ⌜ r ≡ wellFormed self ⌝ }
     {
         let registers = self.registers;
-        are_well_formed(
+        are_parts_well_formed(
             self.vm,
             self.lifecycle,
             self.operation,

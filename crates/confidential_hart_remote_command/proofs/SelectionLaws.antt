@@ -24,7 +24,7 @@ module _ (mask base h : ℕ) where
       let n : eqb h (base + (h - base)) ≡ true = eq-eqb h (base + (h - base)) (omega arith) in
       (ltb-true _ _ (and-left _ _ r), and-both {a = eqb (bit (h - base) mask) 1} (and-right (ltb (h - base) xlen) _ r) n)
 
-  -- every pair of numbers: the list as SBI words it, and the one bit
+  -- for every mask, base and hart: the list as SBI words it, and the one bit
   pub hart-list : inHartList mask base h ≡ maskSelects mask base h
   unfolding inHartList maskSelects
   hart-list =

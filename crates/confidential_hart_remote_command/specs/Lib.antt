@@ -1,3 +1,3 @@
--- The definitions that the contracts of `confidential_hart_remote_command` cite.
+-- The definitions that the contracts and the laws of `confidential_hart_remote_command` cite.
 pub mod Command
 pub mod Selection

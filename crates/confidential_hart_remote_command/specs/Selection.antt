@@ -11,11 +11,11 @@ use Rattle.confidential_hart_remote_command.specs.Command.{shutdownReque
 abbrev pub xlen : ℕ
 xlen = 64
 
--- hart_mask_base of −1: hart_mask is ignored, and all harts are considered
+-- hart_mask_base of −1: every hart, whatever hart_mask is
 abbrev pub minusOne : ℕ
 minusOne = 2 ^ xlen - 1
 
--- hart_mask is a bit-vector containing hartids; hart_mask_base is the starting hartid from which the bit-vector is computed
+-- bit i of hart_mask stands for hart hart_mask_base + i
 unfoldable pub inHartList : ℕ → ℕ → ℕ → Bool
 inHartList hartMask hartMaskBase h =
     eqb hartMaskBase minusOne || some (λ i. eqb (bit i hartMask) 1 && eqb h (hartMaskBase + i)) xlen

@@ -3,7 +3,7 @@ use mathlib.Core.Path.{_≡_, refl}
 use mathlib.Core.Bool.{true}
 use Prim.Native.Nat.{ℕ, _+_}
 use native.Mathlib.Omega.{arith}
-use lib.Dec.{leb, ltb}
+use lib.Dec.{ltb}
 use borrow.Author.Tests.{le-leb}
 use Rattle.table_rows.proofs.PickLaws.{by-pick}
 use Rattle.confidential_vm_mmio_region.specs.Region.{maxEnd, newRegion, ordered}

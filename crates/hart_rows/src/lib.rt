@@ -50,7 +50,7 @@ pub fn is_row_well_formed(row: &[u64]) -> bool
     requires { ⌜ length (now row) ≡ hartWords ⌝ }
     ensures { λ r. ⌜ r ≡ wellFormed (fromWords (now (row .entry))) ⌝ }
 {
-    confidential_hart::are_well_formed(
+    confidential_hart::are_parts_well_formed(
         row[VM_WORD],
         row[LIFECYCLE_WORD],
         row[OPERATION_WORD],

@@ -4,11 +4,11 @@ ghost use Prim.Native.Nat.{_*_, _≤_};
 ghost use lib.ListN.{length};
 ghost use Rattle.confidential_vm_mmio_region.specs.Region.{regionOf, newRegion};
 ghost use Rattle.mmio_regions.specs.Regions.{anyContains};
-ghost use Rattle.mmio_regions.specs.Table.{regionWords, standing, Sized, added, removed, table};
+ghost use Rattle.mmio_regions.specs.Table.{regionWords, standing, regionsSound, Sized, added, removed, table};
 ghost use Rattle.confidential_hart_remote_command.specs.Command.{wellFormed, commandWords, fromWords as commandOf};
 ghost use Rattle.confidential_hart_remote_command.specs.Selection.{selects};
-ghost use Rattle.remote_commands.specs.Queue.{queueWords, outcome, offered};
-ghost use Rattle.confidential_hart.specs.Hart.{dummy, resetHart, bootHart};
+ghost use Rattle.remote_commands.specs.Queue.{queueWords, queueWellFormed, outcome, offered};
+ghost use Rattle.confidential_hart.specs.Hart.{wellFormed as hartWellFormed, dummy, resetHart, bootHart};
 ghost use Rattle.hart_rows.specs.Rows.{hartWords, toWords, fromWords};
 ghost use Rattle.confidential_hart.specs.Transition.{afterStart, afterSuspend, afterStop, afterWake, afterOff};
 ghost use Rattle.leaf_exports.specs.Answers.{answer, ofRegion, ofOutcome, ofTransition};
@@ -36,6 +36,15 @@ pub extern "C" fn leaf_is_hart_selected(words: &[u64], hart: u64) -> bool
     ConfidentialHartRemoteCommand::from_words(words).is_hart_selected(hart)
 }
 
+// Whether a row is a queue.
+#[no_mangle]
+pub extern "C" fn leaf_is_queue_well_formed(queue: &[u64]) -> bool
+    requires { ⌜ length (now queue) ≡ queueWords ⌝ }
+    ensures { λ r. ⌜ r ≡ queueWellFormed (now (queue .entry)) ⌝ }
+{
+    remote_commands::is_queue_well_formed(queue)
+}
+
 // Offers the command that six words hold to a queue.
 #[no_mangle]
 pub extern "C" fn leaf_offer(queue: &mut [u64], words: &[u64]) -> u64
@@ -56,6 +65,14 @@ pub extern "C" fn leaf_new_region(region: &mut [u64], start: u64, size: u64) -> 
     region[0] = made.region.base;
     region[1] = made.region.end;
     made.number
+}
+
+// Whether words with a count are a region table.
+#[no_mangle]
+pub extern "C" fn leaf_regions_are_sound(regions: &[u64], count: u64) -> bool
+    ensures { λ r. ⌜ r ≡ regionsSound (now (regions .entry)) count ⌝ }
+{
+    mmio_regions::regions_are_sound(regions, count)
 }
 
 // Adds a region.
@@ -92,6 +109,15 @@ pub extern "C" fn leaf_is_mmio_region_defined(
 {
     let query = ConfidentialVmMmioRegion { base, end };
     mmio_regions::is_mmio_region_defined(regions, count, query)
+}
+
+// Whether a row holds a hart's record.
+#[no_mangle]
+pub extern "C" fn leaf_is_row_well_formed(row: &[u64]) -> bool
+    requires { ⌜ length (now row) ≡ hartWords ⌝ }
+    ensures { λ r. ⌜ r ≡ hartWellFormed (fromWords (now (row .entry))) ⌝ }
+{
+    hart_rows::is_row_well_formed(row)
 }
 
 // Writes a dummy to a row.

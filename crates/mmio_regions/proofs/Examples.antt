@@ -5,7 +5,8 @@ use Prim.Native.Nat.{ℕ, _-_, _^_}
 use Rattle.error.specs.Error.{done, overlappingMmioRegion, endTooLarge}
 use Rattle.table_rows.specs.Choice.{pick}
 use Rattle.confidential_vm_mmio_region.specs.Region.{maxEnd, regionOf, newRegion}
-use Rattle.mmio_regions.specs.Regions.{anyOf, addNumber, withAdded, withRemoved}
+use Rattle.table_rows.specs.Lists.{anyOf}
+use Rattle.mmio_regions.specs.Regions.{addNumber, withAdded, withRemoved}
 use Rattle.mmio_regions.specs.Table.{wordsOf}
 use Rattle.confidential_vm_mmio_region.specs.declared.ConfidentialVmMmioRegion.{ConfidentialVmMmioRegion}
 use Rattle.confidential_vm_mmio_region.specs.declared.NewRegion.{NewRegion}

@@ -1,32 +1,22 @@
 -- Lists of regions: one more at the end, as a loop over them takes it, and what adding and removing leave. Assumes nothing.
 use mathlib.Core.Path.{_≡_, refl, sym, ap, _∙_}
-use mathlib.Core.Bool.{Bool, true, false, _&&_, _||_, or-false, or-assoc, and-true, and-assoc, false≢true}
+use mathlib.Core.Bool.{Bool, true, false, _||_, false≢true}
 use mathlib.Core.List.{List, [], _∷_, _++_}
-use Prim.Native.Nat.{ℕ, _+_, _≤_, _<_}
+use Prim.Native.Nat.{_+_, _≤_, _<_}
 use native.Mathlib.Omega.{arith}
 use lib.ListN.{length, length-append}
-use lib.Dec.{eqb, leb, ltb}
-use borrow.Author.Tests.{leb-false, le-leb}
+use lib.Dec.{eqb, leb}
+use borrow.Author.Tests.{leb-false}
 use Rattle.error.specs.Error.{done}
 use Rattle.table_rows.specs.Choice.{pick}
+use Rattle.table_rows.proofs.ListLaws.{all-last}
 use Rattle.table_rows.proofs.PickLaws.{no, by-pick, by-test, and-left, and-right, and-both}
-use Rattle.confidential_vm_mmio_region.specs.Region.{maxEnd, newRegion, overlaps, ordered}
-use Rattle.mmio_regions.specs.Regions.{maxRegions, anyOf, allOf, anyOverlaps, addNumber, withAdded, withRemoved}
+use Rattle.confidential_vm_mmio_region.specs.Region.{overlaps, ordered}
+use Rattle.table_rows.specs.Lists.{anyOf, allOf}
+use Rattle.mmio_regions.specs.Regions.{maxRegions, anyOverlaps, addNumber, withAdded, withRemoved}
 use Rattle.confidential_vm_mmio_region.specs.declared.ConfidentialVmMmioRegion.{ConfidentialVmMmioRegion}
-use Rattle.confidential_vm_mmio_region.specs.declared.NewRegion.{NewRegion}
 
 -- ---- one more region at the end
-
-module _ (f : ConfidentialVmMmioRegion → Bool) (r : ConfidentialVmMmioRegion) where
-  pub any-last : (rs : List ConfidentialVmMmioRegion) → anyOf f (rs ++ (r ∷ [])) ≡ anyOf f rs || f r
-  unfolding anyOf
-  any-last [] = or-false (f r)
-  any-last (x ∷ rs) = ap (λ (b : Bool). f x || b) (any-last rs) ∙ sym (or-assoc (f x) (anyOf f rs) (f r))
-
-  pub all-last : (rs : List ConfidentialVmMmioRegion) → allOf f (rs ++ (r ∷ [])) ≡ allOf f rs && f r
-  unfolding allOf
-  all-last [] = and-true (f r)
-  all-last (x ∷ rs) = ap (λ (b : Bool). f x && b) (all-last rs) ∙ sym (and-assoc (f x) (allOf f rs) (f r))
 
 -- two choices, in either order
 exchange : (a b : Bool) (x : ConfidentialVmMmioRegion) (ks ls : List ConfidentialVmMmioRegion)

@@ -13,7 +13,8 @@ use Rattle.table_rows.specs.Choice.{allZero}
 use Rattle.table_rows.proofs.PickLaws.{and-left, and-right, and-both}
 use Rattle.table_rows.proofs.ZeroLaws.{zeros-all-zero, all-zero-zeros}
 use Rattle.confidential_vm_mmio_region.specs.Region.{ordered}
-use Rattle.mmio_regions.specs.Regions.{maxRegions, allOf, withAdded, withRemoved}
+use Rattle.table_rows.specs.Lists.{allOf}
+use Rattle.mmio_regions.specs.Regions.{maxRegions, withAdded, withRemoved}
 use Rattle.mmio_regions.specs.Table.{regionWords, standing, wordsOf, unused, regionsSound, Sized, laid, added, removed}
 use Rattle.confidential_vm_mmio_region.specs.declared.ConfidentialVmMmioRegion.{ConfidentialVmMmioRegion}
 use Rattle.mmio_regions.proofs.RegionLaws.{added-few, added-ordered, removed-few, removed-ordered}

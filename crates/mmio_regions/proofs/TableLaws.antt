@@ -15,10 +15,10 @@ use Rattle.table_rows.specs.Rows.{row, wordAt, put}
 use Rattle.table_rows.proofs.PickLaws.{by-test}
 use Rattle.table_rows.proofs.RowLaws.{row-length, words-all}
 use Rattle.confidential_vm_mmio_region.specs.Region.{regionOf}
-use Rattle.mmio_regions.specs.Regions.{anyOf, allOf}
+use Rattle.table_rows.specs.Lists.{upTo, anyOf, allOf}
 use Rattle.mmio_regions.specs.Table.{regionWords, regionAt, standing, First, wordsOf, laid}
 use Rattle.confidential_vm_mmio_region.specs.declared.ConfidentialVmMmioRegion.{ConfidentialVmMmioRegion}
-use Rattle.mmio_regions.proofs.RegionLaws.{any-last, all-last}
+use Rattle.table_rows.proofs.ListLaws.{up-to-length, up-to-next, any-last, all-last}
 
 -- ---- the words of regions
 
@@ -49,17 +49,16 @@ put-place xs i r fits =
 
 pub standing-length : (xs : List ℕ) (n : ℕ) → length (standing xs n) ≡ n
 unfolding standing
-standing-length xs zero = refl
-standing-length xs (suc n) = simp length-append (omega (arith, standing-length xs n))
+standing-length xs n = up-to-length (regionAt xs) n
 
 -- one more place
 pub standing-next : (xs : List ℕ) (n : ℕ) → standing xs (n + 1) ≡ standing xs n ++ (regionAt xs n ∷ [])
 unfolding standing
-standing-next xs n = ap (standing xs) (add-one n)
+standing-next xs n = up-to-next (regionAt xs) n
 
 -- the first n regions are the first n places, word for word
 pub standing-words : (xs : List ℕ) (n : ℕ) → n * regionWords ≤ length xs → wordsOf (standing xs n) ≡ take (n * regionWords) xs
-unfolding standing wordsOf row
+unfolding standing upTo wordsOf row
 standing-words xs zero fits = refl
 standing-words xs (suc n) fits =
     words-append (standing xs n) (regionAt xs n ∷ [])
@@ -77,14 +76,14 @@ rest-place xs i =
     ap (λ (l : List ℕ). regionOf (getD (take regionWords l) 0 0) (getD (take regionWords l) 1 0)) e
 
 first-stands : (xs : List ℕ) (n : ℕ) → standing xs (suc n) ≡ regionAt xs 0 ∷ standing (drop regionWords xs) n
-unfolding standing
+unfolding standing upTo
 first-stands xs zero = refl
 first-stands xs (suc n) =
     ap₂ (λ (rs : List ConfidentialVmMmioRegion) (r : ConfidentialVmMmioRegion). rs ++ (r ∷ [])) (first-stands xs n) (rest-place xs n)
 
 -- regions stand where their words are written first
 pub standing-of : (rs : List ConfidentialVmMmioRegion) (ys : List ℕ) → standing (wordsOf rs ++ ys) (length rs) ≡ rs
-unfolding standing wordsOf wordAt row
+unfolding standing upTo wordsOf wordAt row
 standing-of [] ys = refl
 standing-of (r ∷ rs) ys = first-stands (wordsOf (r ∷ rs) ++ ys) (length rs) ∙ ap (λ (ss : List ConfidentialVmMmioRegion). r ∷ ss) (standing-of rs ys)
 
@@ -99,7 +98,7 @@ next-by test op f last xs i p e = rw (standing-next xs i, last (regionAt xs i) (
 module _ (f : ConfidentialVmMmioRegion → Bool) (xs : List ℕ) where
   -- a flag carried through, whether all pass
   pub all-none : true ≡ allOf f (standing xs 0)
-  unfolding allOf standing
+  unfolding allOf standing upTo
   all-none = refl
 
   pub all-next : (i : ℕ) {ok b : Bool} → ok ≡ allOf f (standing xs i) → b ≡ f (regionAt xs i) → ok && b ≡ allOf f (standing xs (i + 1))
@@ -110,7 +109,7 @@ module _ (f : ConfidentialVmMmioRegion → Bool) (xs : List ℕ) where
 
   -- a search that ends at the first that passes
   pub none-yet : anyOf f (standing xs 0) ≡ false
-  unfolding anyOf standing
+  unfolding anyOf standing upTo
   none-yet = refl
 
   -- the region r that was read in place i, and what its test b gave
@@ -130,7 +129,7 @@ module _ (f : ConfidentialVmMmioRegion → Bool) (xs : List ℕ) where
 
   -- a place that passes settles it
   any-at : (i n : ℕ) → i < n → f (regionAt xs i) ≡ true → anyOf f (standing xs n) ≡ true
-  unfolding standing
+  unfolding standing upTo
   any-at i zero l e = absurd (not-suc-le-zero l)
   any-at i (suc n) l e =
       any-last f (regionAt xs n) (standing xs n)

@@ -1,27 +1,18 @@
 -- The regions of a VM in the order of adding, and what adding and removing make of them.
 use Prim.Native.Nat.{ℕ}
-use mathlib.Core.Bool.{Bool, true, false, _&&_, _||_}
+use mathlib.Core.Bool.{Bool}
 use mathlib.Core.List.{List, [], _∷_, _++_}
 use lib.ListN.{length}
 use lib.Dec.{eqb, leb}
 use Rattle.error.specs.Error.{done, reachedMaxNumberOfMmioRegions, overlappingMmioRegion}
 use Rattle.table_rows.specs.Choice.{pick}
+use Rattle.table_rows.specs.Lists.{anyOf}
 use Rattle.confidential_vm_mmio_region.specs.declared.ConfidentialVmMmioRegion.{ConfidentialVmMmioRegion}
 use Rattle.confidential_vm_mmio_region.specs.Region.{overlaps, contains}
 
 -- how many regions may stand
 abbrev pub maxRegions : ℕ
 maxRegions = 1024
-
--- f holds of a region of the list
-unfoldable pub anyOf : (ConfidentialVmMmioRegion → Bool) → List ConfidentialVmMmioRegion → Bool
-anyOf f [] = false
-anyOf f (r ∷ rs) = f r || anyOf f rs
-
--- f holds of each region of the list
-unfoldable pub allOf : (ConfidentialVmMmioRegion → Bool) → List ConfidentialVmMmioRegion → Bool
-allOf f [] = true
-allOf f (r ∷ rs) = f r && allOf f rs
 
 -- one overlaps q
 abbrev pub anyOverlaps : ConfidentialVmMmioRegion → List ConfidentialVmMmioRegion → Bool

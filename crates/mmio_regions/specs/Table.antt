@@ -1,5 +1,5 @@
 -- The region table: 1,024 places of base and end in a flat list. The first count stand; what lies past the last place belongs to no table.
-use Prim.Native.Nat.{ℕ, zero, suc, _-_, _*_, _≤_, _<_, max}
+use Prim.Native.Nat.{ℕ, _-_, _*_, _≤_, _<_, max}
 use mathlib.Core.Path.{_≡_}
 use mathlib.Core.Bool.{Bool, true, false, _&&_}
 use mathlib.Core.List.{List, [], _∷_, _++_}
@@ -8,7 +8,8 @@ use lib.Dec.{leb}
 use Rattle.table_rows.specs.Rows.{wordAt}
 use Rattle.table_rows.specs.Choice.{allZero}
 use Rattle.confidential_vm_mmio_region.specs.Region.{regionOf, ordered}
-use Rattle.mmio_regions.specs.Regions.{maxRegions, anyOf, allOf, addNumber, withAdded, withRemoved}
+use Rattle.table_rows.specs.Lists.{upTo, anyOf, allOf}
+use Rattle.mmio_regions.specs.Regions.{maxRegions, addNumber, withAdded, withRemoved}
 use Rattle.confidential_vm_mmio_region.specs.declared.ConfidentialVmMmioRegion.{ConfidentialVmMmioRegion}
 use Rattle.mmio_regions.specs.declared.Added.{Added}
 
@@ -22,8 +23,7 @@ regionAt words i = regionOf (wordAt regionWords words i 0) (wordAt regionWords w
 
 -- the regions in the first count places, in order
 unfoldable pub standing : List ℕ → ℕ → List ConfidentialVmMmioRegion
-standing words zero = []
-standing words (suc count) = standing words count ++ (regionAt words count ∷ [])
+standing words count = upTo (regionAt words) count
 
 -- of the first count places, i is the first whose region passes f, or count where none does
 pub record First (f : ConfidentialVmMmioRegion → Bool) (words : List ℕ) (count i : ℕ) : Type 0 where

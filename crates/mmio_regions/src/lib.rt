@@ -9,7 +9,8 @@ ghost use lib.ListN.{length};
 ghost use Rattle.table_rows.specs.Rows.{put};
 ghost use Rattle.table_rows.specs.Choice.{pick};
 ghost use Rattle.confidential_vm_mmio_region.specs.Region.{overlaps, contains, ordered};
-ghost use Rattle.mmio_regions.specs.Regions.{allOf, anyOverlaps, anyContains};
+ghost use Rattle.table_rows.specs.Lists.{allOf};
+ghost use Rattle.mmio_regions.specs.Regions.{anyOverlaps, anyContains};
 ghost use Rattle.mmio_regions.specs.Table.{
   regionWords,
   regionAt,
@@ -41,7 +42,7 @@ pub struct Added {
 }
 
 // The region in place `i`.
-pub fn region(regions: &[u64], i: usize) -> ConfidentialVmMmioRegion
+fn region(regions: &[u64], i: usize) -> ConfidentialVmMmioRegion
     requires { ⌜ i * regionWords + regionWords ≤ length (now regions) ⌝ }
     ensures { λ r. ⌜ r ≡ regionAt (now (regions .entry)) i ⌝ }
 {
@@ -125,7 +126,7 @@ fn find_containing(regions: &[u64], count: u64, query: ConfidentialVmMmioRegion)
 }
 
 // Whether one of the first `count` regions overlaps the query.
-pub fn overlaps_any(regions: &[u64], count: u64, query: ConfidentialVmMmioRegion) -> bool
+fn overlaps_any(regions: &[u64], count: u64, query: ConfidentialVmMmioRegion) -> bool
     requires { ⌜ count * regionWords ≤ length (now regions) ⌝ }
     ensures { λ r. ⌜ r ≡ anyOverlaps query (standing (now (regions .entry)) count) ⌝ }
 {
@@ -140,7 +141,8 @@ pub fn is_mmio_region_defined(regions: &[u64], count: u64, query: ConfidentialVm
     find_containing(regions, count, query) < count as usize
 }
 
-// Adds a region after the first `count`: it is refused when all places are taken, then when it overlaps one.
+// Adds a region after the first `count`: it is refused when all places are taken, then when it overlaps one. A region that `new` made has
+// its base no higher than its end, and leaves a sound table sound.
 pub fn add(regions: &mut [u64], count: u64, region: ConfidentialVmMmioRegion) -> Added
     requires { ⌜ Sized (now regions) count ⌝ }
     ensures { λ r. ⌜ outcome r (now (regions .exit)) ≡ added (now (regions .entry)) count region ⌝ }
@@ -178,7 +180,7 @@ fn keeps(kept: usize, region: ConfidentialVmMmioRegion, query: ConfidentialVmMmi
 }
 
 // Removes each of the first `count` regions that overlaps the query, and keeps the order of the others. From the first that overlaps on,
-// each is moved to the next place that is kept, without a branch, and the freed places are cleared. The answer is how many stand then.
+// each is written to the next place that is kept, and the freed places are cleared. The answer is how many stand then.
 pub fn remove(regions: &mut [u64], count: u64, query: ConfidentialVmMmioRegion) -> u64
     requires { ⌜ Sized (now regions) count ⌝ }
     ensures { λ r. ⌜ table r (now (regions .exit)) ≡ removed (now (regions .entry)) count query ⌝ }

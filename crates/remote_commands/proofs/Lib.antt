@@ -1,4 +1,4 @@
 -- What belongs to no one function of `remote_commands`.
 pub mod QueueLaws
 pub mod OfferLaws
-pub mod Worked
+pub mod Examples

@@ -7,19 +7,21 @@ use Prim.Native.Nat.{ℕ, zero, suc, _+_, _*_, _≤_, _<_}
 use native.Mathlib.Nat.{le-refl, eq-or-lt-of-le, le-of-suc-le-suc}
 use native.Mathlib.Numerals.{add-one}
 use native.Mathlib.Omega.{arith}
-use lib.ListN.{length, getD, drop, replicate, length-append, length-drop, length-replicate, List·getD-eq-default}
+use lib.ListN.{length, getD, drop, replicate, length-drop, length-replicate, List·getD-eq-default}
 use lib.Seq.{getD-drop}
 use lib.Dec.{leb, eqb}
 use borrow.Author.Tests.{le-leb, lt-leb, leb-true, leb-false, eq-eqb, eqb-true, not-true}
 use Rattle.error.specs.Error.{done, reachedMaxNumberOfRemoteCommands}
 use Rattle.table_rows.specs.Choice.{pick, every, allZero, some}
+use Rattle.table_rows.specs.Lists.{upTo, anyOf}
 use Rattle.table_rows.proofs.PickLaws.{yes, no, by-pick, by-test, and-left, and-right, and-both, not-yes}
 use Rattle.table_rows.proofs.EveryLaws.{every-at, every-of, every-more}
+use Rattle.table_rows.proofs.ListLaws.{up-to-length, up-to-same, any-up-to}
 use Rattle.table_rows.proofs.RowLaws.{put-length, row-put-same, row-put-other, put-elsewhere}
 use Rattle.table_rows.proofs.ZeroLaws.{zeros-all-zero, all-zero-zeros}
 use Rattle.confidential_hart_remote_command.specs.declared.ConfidentialHartRemoteCommand.{ConfidentialHartRemoteCommand}
 use Rattle.confidential_hart_remote_command.specs.Command.{wellFormed, same, commandWords, fromWords, toWords}
-use Rattle.remote_commands.specs.Queue.{maxCommands, queueWords, count, places, commandAt, upTo, commands, queued, distinct, queueWellFormed, pushed, emptied, Offer, outcome, offered}
+use Rattle.remote_commands.specs.Queue.{maxCommands, queueWords, count, places, commandAt, commands, queued, distinct, queueWellFormed, pushed, emptied, withOffered, Offer, outcome, offered}
 use Rattle.table_rows.proofs.SomeLaws.{some-of, none-of, some-none, some-at}
 use Rattle.confidential_hart_remote_command.proofs.CommandLaws.{same-refl, same-eq}
 
@@ -38,18 +40,6 @@ zero-of s h = every-of (λ j. eqb (getD s j 0) 0) (length s) (λ i l. eq-eqb _ _
 -- ---- the list of commands
 
 module _ (f : ℕ → ConfidentialHartRemoteCommand) where
-  up-to-length : (n : ℕ) → length (upTo f n) ≡ n
-  unfolding upTo
-  up-to-length zero = refl
-  up-to-length (suc n) = length-append (upTo f n) (f n ∷ []) ∙ omega (arith, up-to-length n)
-
-  up-to-same : (g : ℕ → ConfidentialHartRemoteCommand) (n : ℕ) → ((i : ℕ) → i < n → f i ≡ g i) → upTo f n ≡ upTo g n
-  unfolding upTo
-  up-to-same g zero h = refl
-  up-to-same g (suc n) h =
-      ap₂ (λ (xs : List ConfidentialHartRemoteCommand) (x : ConfidentialHartRemoteCommand). xs ++ (x ∷ []))
-      (up-to-same g n (λ i l. h i (omega arith))) (h n (le-refl (suc n)))
-
   up-to-has : (i n : ℕ) → i < n → List·Memᴰ (f i) (upTo f n)
   unfolding upTo
   up-to-has i zero l = absurd (omega arith)
@@ -70,6 +60,11 @@ module _ (f : ℕ → ConfidentialHartRemoteCommand) where
 pub commands-length : (q : List ℕ) → length (commands q) ≡ count q
 unfolding commands
 commands-length q = up-to-length (commandAt q) (count q)
+
+-- c is queued exactly when one of them equals it
+pub queued-any : (q : List ℕ) (c : ConfidentialHartRemoteCommand) → queued q c ≡ anyOf (λ d. same d c) (commands q)
+unfolding queued commands
+queued-any q c = sym (any-up-to (λ d. same d c) (commandAt q) (count q))
 
 -- a command is queued exactly when it is one of them
 pub queued-member : (q : List ℕ) (c : ConfidentialHartRemoteCommand) → queued q c ≡ true → List·Memᴰ c (commands q)
@@ -203,13 +198,14 @@ module _ (q : List ℕ) (c : ConfidentialHartRemoteCommand) where
     offer-length = by-offer (λ o. length (o .queue) ≡ queueWords) (λ l. long) (λ l e. long) (λ l e. push-length q c long l)
 
     -- the commands stay as they are, or c is last
-    pub offer-commands : commands (offered q c .queue)
-        ≡ pick (leb maxCommands (count q)) (commands q) (pick (queued q c) (commands q) (commands q ++ (c ∷ [])))
+    pub offer-commands : commands (offered q c .queue) ≡ withOffered c (commands q)
+    unfolding withOffered
     offer-commands =
-        by-offer (λ o. commands (o .queue) ≡ pick (leb maxCommands (count q)) (commands q) (pick (queued q c) (commands q) (commands q ++ (c ∷ []))))
+        rw (commands-length q, ← (queued-any q c))
+        (by-offer (λ o. commands (o .queue) ≡ pick (leb maxCommands (count q)) (commands q) (pick (queued q c) (commands q) (commands q ++ (c ∷ []))))
         (λ l. yes _ (le-leb _ _ l) refl)
         (λ l e. no _ (lt-leb _ _ l) (yes _ e refl))
-        (λ l e. no _ (lt-leb _ _ l) (no _ e (push-commands q c long l)))
+        (λ l e. no _ (lt-leb _ _ l) (no _ e (push-commands q c long l))))
 
     -- where it is done, c waits afterwards
     pub offer-queued : offered q c .number ≡ done → queued (offered q c .queue) c ≡ true

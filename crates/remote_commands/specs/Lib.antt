@@ -1,2 +1,2 @@
--- The definitions that the contracts of `remote_commands` cite.
+-- The definitions that the contracts and the laws of `remote_commands` cite.
 pub mod Queue

@@ -1,11 +1,12 @@
 -- One hart's queue: the count, and then 64 commands of 6 words.
-use Prim.Native.Nat.{ℕ, zero, suc, _+_, _*_}
+use Prim.Native.Nat.{ℕ, _+_, _*_}
 use mathlib.Core.Bool.{Bool, not, _&&_}
 use mathlib.Core.List.{List, [], _∷_, _++_}
-use lib.ListN.{getD, drop, replicate}
+use lib.ListN.{length, getD, drop, replicate}
 use lib.Dec.{leb}
 use Rattle.error.specs.Error.{done, reachedMaxNumberOfRemoteCommands}
 use Rattle.table_rows.specs.Rows.{row, put}
+use Rattle.table_rows.specs.Lists.{upTo, anyOf}
 use Rattle.table_rows.specs.Choice.{pick, every, allZero, some}
 use Rattle.confidential_hart_remote_command.specs.declared.ConfidentialHartRemoteCommand.{ConfidentialHartRemoteCommand}
 use Rattle.confidential_hart_remote_command.specs.Command.{wellFormed, same, commandWords, fromWords, toWords}
@@ -28,11 +29,6 @@ places q = drop 1 q
 -- command i
 unfoldable pub commandAt : List ℕ → ℕ → ConfidentialHartRemoteCommand
 commandAt q i = fromWords (row commandWords (places q) i)
-
--- what f gives for each number below n, in order
-unfoldable pub upTo : (ℕ → ConfidentialHartRemoteCommand) → ℕ → List ConfidentialHartRemoteCommand
-upTo f zero = []
-upTo f (suc n) = upTo f n ++ (f n ∷ [])
 
 -- the commands that wait, the first first
 unfoldable pub commands : List ℕ → List ConfidentialHartRemoteCommand
@@ -59,6 +55,10 @@ pushed q c = (count q + 1) ∷ put commandWords (places q) (count q) (toWords c)
 -- the queue with no command
 unfoldable pub emptied : List ℕ
 emptied = replicate queueWords 0
+
+-- the commands after an offer of c: 64 stay as they are, an equal one is not added again, else c is last
+unfoldable pub withOffered : ConfidentialHartRemoteCommand → List ConfidentialHartRemoteCommand → List ConfidentialHartRemoteCommand
+withOffered c cs = pick (leb maxCommands (length cs)) cs (pick (anyOf (λ d. same d c) cs) cs (cs ++ (c ∷ [])))
 
 -- what an offer gives back, and the queue afterwards
 pub record Offer : Type 0 where

@@ -2,6 +2,7 @@
 pub mod PickLaws
 pub mod EveryLaws
 pub mod SomeLaws
+pub mod ListLaws
 pub mod RowLaws
 pub mod PartLaws
 pub mod ZeroLaws

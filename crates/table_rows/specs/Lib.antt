@@ -1,3 +1,4 @@
 -- The definitions that the contracts of `table_rows` cite.
 pub mod Rows
 pub mod Choice
+pub mod Lists

@@ -6,7 +6,7 @@ use Rattle.hart_rows.proofs.is_row_well_formed.Statement.{statement}
 use Rattle.hart_rows.proofs.is_row_well_formed.Tie as tie
 
 returns : tie.Need-returns
-returns c = c .are-well-formed .ensures ∙ row-formed (c .before .before .before .before .before .before .before .before .args .row .now) (c .before .before .before .before .before .before .before .before .pre)
+returns c = c .are-parts-well-formed .ensures ∙ row-formed (c .before .before .before .before .before .before .before .before .args .row .now) (c .before .before .before .before .before .before .before .before .pre)
 
 pub is-row-well-formed-spec : {M : Type 1} → statement M
 is-row-well-formed-spec =

@@ -1,7 +1,6 @@
 -- `leaf_exports::leaf_new_region` meets its contract: the two stores fill the words. Assumes nothing.
-use Prim.Native.Nat.{ℕ}
 use mathlib.Core.Path.{ap, _∙_}
-use mathlib.Core.List.{List, [], _∷_}
+use mathlib.Core.List.{[], _∷_}
 use Rattle.table_rows.proofs.RowLaws.{sets-whole}
 use Rattle.leaf_exports.specs.Answers.{answer, ofRegion}
 use borrow.Author.Needs.{needs}

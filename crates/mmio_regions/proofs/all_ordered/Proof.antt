@@ -3,7 +3,7 @@ use Prim.Native.Nat.{_≤_, _-_}
 use mathlib.Core.Path.{_≡_, ap}
 use borrow.Author.Needs.{needs}
 use Rattle.confidential_vm_mmio_region.specs.Region.{ordered}
-use Rattle.mmio_regions.specs.Regions.{allOf}
+use Rattle.table_rows.specs.Lists.{allOf}
 use Rattle.mmio_regions.specs.Table.{standing}
 use Rattle.mmio_regions.proofs.TableLaws.{all-none, all-next, all-done}
 use Rattle.mmio_regions.proofs.all_ordered.Statement.{statement}

@@ -4,7 +4,7 @@ use mathlib.Core.Path.{_≡_}
 use mathlib.Core.Bool.{false}
 use borrow.Author.Needs.{needs}
 use Rattle.confidential_vm_mmio_region.specs.Region.{contains}
-use Rattle.mmio_regions.specs.Regions.{anyOf}
+use Rattle.table_rows.specs.Lists.{anyOf}
 use Rattle.mmio_regions.specs.Table.{standing}
 use Rattle.mmio_regions.proofs.TableLaws.{none-yet, none-next, first-here, first-none}
 use Rattle.mmio_regions.proofs.find_containing.Statement.{statement}

@@ -6,7 +6,7 @@ use Rattle.confidential_hart.proofs.ConfidentialHart.is_well_formed.Tie
 
 returns : tie.Need-returns
 unfolding wellFormed
-returns c = c .are-well-formed .ensures
+returns c = c .are-parts-well-formed .ensures
 
 pub is-well-formed-spec : {M : Type 1} → statement M
 is-well-formed-spec =

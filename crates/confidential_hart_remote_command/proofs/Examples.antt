@@ -1,4 +1,4 @@
--- The worked example P6 of the scope, about the definitions. Assumes nothing.
+-- The example P6 of document 01, about the definitions. Assumes nothing.
 use mathlib.Core.Path.{_≡_}
 use Prim.Native.Nat.{ℕ, _^_}
 use native.Mathlib.Omega.{arith}

@@ -1,4 +1,4 @@
--- The worked example P8 of the scope, about the definitions. Assumes nothing.
+-- The example P8 of document 01, about the definitions. Assumes nothing.
 use mathlib.Core.Path.{_≡_, ap, _∙_}
 use mathlib.Core.Bool.{true, false}
 use mathlib.Core.List.{List}
