@@ -11,11 +11,14 @@ pub const MOST_REGIONS: usize = 1024;
 unsafe extern "C" {
     fn leaf_is_well_formed(command: *const u64, words: usize) -> bool;
     fn leaf_is_hart_selected(command: *const u64, words: usize, hart: u64) -> bool;
+    fn leaf_is_queue_well_formed(queue: *const u64, words: usize) -> bool;
     fn leaf_offer(queue: *mut u64, words: usize, command: *const u64, command_words: usize) -> u64;
     fn leaf_new_region(region: *mut u64, words: usize, start: u64, size: u64) -> u64;
+    fn leaf_regions_are_sound(regions: *const u64, words: usize, count: u64) -> bool;
     fn leaf_add(regions: *mut u64, words: usize, count: u64, base: u64, end: u64) -> u64;
     fn leaf_remove(regions: *mut u64, words: usize, count: u64, base: u64, end: u64) -> u64;
     fn leaf_is_mmio_region_defined(regions: *const u64, words: usize, count: u64, base: u64, end: u64) -> bool;
+    fn leaf_is_row_well_formed(row: *const u64, words: usize) -> bool;
     fn leaf_dummy(row: *mut u64, words: usize, hardware_hart: u64);
     fn leaf_from_vm_hart_reset(row: *mut u64, words: usize, hart: u64);
     fn leaf_from_vm_hart(row: *mut u64, words: usize, hart: u64, pc: u64, a1: u64, vsatp: u64, vsstatus: u64);
@@ -45,22 +48,24 @@ pub fn is_hart_selected(command: Command, hart: u64) -> bool {
 pub struct Queue(pub [u64; QUEUE_WORDS]);
 
 impl Queue {
+    pub fn is_well_formed(&self) -> bool {
+        unsafe { leaf_is_queue_well_formed(self.0.as_ptr(), QUEUE_WORDS) }
+    }
+
     pub fn offer(&mut self, command: Command) -> u64 {
         let command = numbers(command);
         unsafe { leaf_offer(self.0.as_mut_ptr(), QUEUE_WORDS, command.as_ptr(), command.len()) }
     }
 }
 
-/// The region from `start` on, or the number of a refusal.
-pub fn new_region(start: u64, size: u64) -> Result<[u64; 2], u64> {
-    let mut region = [0; REGION_WORDS];
-    match unsafe { leaf_new_region(region.as_mut_ptr(), REGION_WORDS, start, size) } {
-        0 => Ok(region),
-        number => Err(number),
-    }
+/// The number that making a region gives, and its base and end.
+pub fn new_region(start: u64, size: u64) -> (u64, [u64; 2]) {
+    let mut region = [u64::MAX; REGION_WORDS];
+    let number = unsafe { leaf_new_region(region.as_mut_ptr(), REGION_WORDS, start, size) };
+    (number, region)
 }
 
-/// The region table and its count.
+/// The region table and its count. What lies past its last place belongs to the caller.
 #[derive(Clone, PartialEq, Debug)]
 pub struct Regions {
     pub words: Vec<u64>,
@@ -68,8 +73,17 @@ pub struct Regions {
 }
 
 impl Regions {
+    /// Words past the last place, which nobody may read or write.
+    pub const PAST: [u64; 3] = [u64::MAX, 7, u64::MAX];
+
     pub fn new() -> Self {
-        Self { words: vec![0; MOST_REGIONS * REGION_WORDS], count: 0 }
+        let mut words = vec![0; MOST_REGIONS * REGION_WORDS];
+        words.extend(Self::PAST);
+        Self { words, count: 0 }
+    }
+
+    pub fn are_sound(&self) -> bool {
+        unsafe { leaf_regions_are_sound(self.words.as_ptr(), self.words.len(), self.count) }
     }
 
     pub fn add(&mut self, [base, end]: [u64; 2]) -> u64 {
@@ -107,6 +121,10 @@ pub struct Row(pub [u64; HART_WORDS]);
 impl Row {
     /// A row that something else stood in before.
     const USED: Self = Self([u64::MAX; HART_WORDS]);
+
+    pub fn is_well_formed(&self) -> bool {
+        unsafe { leaf_is_row_well_formed(self.0.as_ptr(), HART_WORDS) }
+    }
 
     pub fn dummy(hardware_hart: u64) -> Self {
         let mut row = Self::USED;

@@ -1,5 +1,7 @@
-//! Each leaf beside the Rust that it is ported from: selection, queues, regions, and a hart's registers and lifecycle.
-use compare::{MOST_REGIONS, QUEUE_WORDS, Queue, Regions, Row, is_hart_selected, is_well_formed, new_region};
+//! Each leaf beside the oracle: queues, regions, and a hart's registers and lifecycle beside the Rust that they are ported from; selection and
+//! a command's form beside the oracle's reading of document 01, since the Rust's own is not at hand. What decides soundness is run beside
+//! document 01's paragraph written out here.
+use compare::{HART_WORDS, MOST_REGIONS, QUEUE_WORDS, Queue, Regions, Row, is_hart_selected, is_well_formed, new_region};
 use oracle::core::architecture::GeneralPurposeRegister;
 use oracle::core::architecture::riscv::sbi::NaclSharedMemory;
 use oracle::core::control_data::{ConfidentialHart, ConfidentialVm, ConfidentialVmId, ConfidentialVmMmioRegion};
@@ -27,7 +29,7 @@ fn command(random: &mut Random) -> Command {
 }
 
 #[test]
-fn a_command_selects_what_the_rust_selects() {
+fn a_command_selects_what_the_oracle_selects() {
     let masks: Vec<usize> = (0..64).map(|bit| 1 << bit).chain(EDGES).chain((0..64).map(|bit| !(1 << bit))).collect();
     for &mask in &masks {
         for base in EDGES {
@@ -48,8 +50,8 @@ fn a_command_selects_what_the_rust_selects() {
 }
 
 #[test]
-fn a_command_is_well_formed_when_the_rust_has_a_place_for_its_numbers() {
-    for kind in (0..=8).chain([MAX]) {
+fn a_command_is_well_formed_when_its_kind_has_a_place_for_its_numbers() {
+    for kind in (0..=40).chain([256 + 1, (1 << 32) + 1, (1 << 63) + 6, MAX]) {
         for zeros in 0..32 {
             for value in [1, 1 << 63, MAX] {
                 let at = |place: usize| if zeros >> place & 1 == 1 { 0 } else { value };
@@ -89,41 +91,54 @@ fn queue_words(vm: &mut ConfidentialVm) -> [u64; QUEUE_WORDS] {
 #[test]
 fn a_queue_takes_what_the_rusts_takes() {
     let random = &mut Random::new(2);
-    let mut seen = [0; 3];
+    let mut seen = [0; 4];
     for _ in 0..200 {
         let mut vm = two_harts();
         let mut queue = Queue([0; QUEUE_WORDS]);
-        // Commands that select hart 1, and more of them than a queue holds.
-        let pool: Vec<Command> = (0..120)
-            .map(|_| match random.below(8) {
-                0 => Command { kind: 6, ..Command::default() },
-                1 => Command { kind: 1, mask: random.next() | 2, base: 0, ..Command::default() },
-                2 => Command { kind: 2, mask: random.next() | 1, base: 1, ..Command::default() },
-                3 => Command { kind: 3, mask: any(random), base: MAX, start: any(random), size: random.below(2), tag: 0 },
-                kind => Command { kind: 4 + kind % 2, mask: 2, base: 0, start: random.below(3), size: random.below(3), tag: any(random) },
+        // Commands that select hart 1, more of them than a queue holds; each has a twin that differs in one number.
+        let mut pool: Vec<Command> = (0..60)
+            .map(|_| {
+                let (mask, start, size, tag) = (random.next() | 3, any(random), any(random), any(random));
+                let base = random.of(&[0, 1, MAX]);
+                match random.below(8) {
+                    0 => Command { kind: 6, ..Command::default() },
+                    kind @ 1..3 => Command { kind, mask, base, ..Command::default() },
+                    3 => Command { kind: 3, mask, base, start, size, tag: 0 },
+                    kind => Command { kind: 4 + kind % 2, mask, base, start, size, tag },
+                }
             })
             .collect();
+        for at in 0..pool.len() {
+            let Command { kind, mask, base, start, size, tag } = pool[at];
+            let twin = match random.below(6) {
+                0 => Command { kind: if kind < 3 { 3 - kind } else { 9 - kind.max(4) }, ..pool[at] },
+                1 => Command { mask: mask ^ (4 << random.below(62)), ..pool[at] },
+                2 => Command { base: 1 - base.min(1), ..pool[at] },
+                3 => Command { start: start ^ (1 << random.below(64)), ..pool[at] },
+                4 => Command { size: size ^ (1 << random.below(64)), ..pool[at] },
+                _ => Command { tag: tag ^ (1 << random.below(64)), ..pool[at] },
+            };
+            pool.extend(twin.to_remote_command().filter(|rust| rust.is_hart_selected(1)).map(|_| twin));
+        }
         for _ in 0..240 {
             let command = random.of(&pool);
             let before = queue.clone();
             let rust = vm.broadcast_remote_command(0, command.to_remote_command().expect("well formed")).map(|_| ());
             assert_eq!(queue.offer(command), number(rust), "{command:?} {before:?}");
             assert_eq!(queue.0, queue_words(&mut vm), "{command:?} {before:?}");
-            let outcome = match (queue == before, before.0[0]) {
-                (false, _) => 0,
-                (true, 64) => 1,
-                (true, _) => 2,
-            };
-            seen[outcome] += 1;
+            let waits = before.0[1..].chunks(6).any(|place| place == command.numbers().map(|number| number as u64));
+            seen[2 * (before.0[0] == 64) as usize + waits as usize] += 1;
         }
     }
-    assert!(seen.iter().all(|&times| times > 1000), "queued, refused and already there: {seen:?}");
+    assert!(seen.iter().all(|&times| times > 500), "new and waiting, with room and without: {seen:?}");
 }
 
 /// A VM in which these regions were added in order: it equals another exactly when the other has the same regions in the same order.
 fn with_regions(regions: &Regions) -> ConfidentialVm {
     let mut vm = two_harts();
-    let (standing, unused) = regions.words.split_at(2 * regions.count as usize);
+    let (table, past) = regions.words.split_at(2 * MOST_REGIONS);
+    assert_eq!(past, Regions::PAST, "words past the last place were written");
+    let (standing, unused) = table.split_at(2 * regions.count as usize);
     assert!(unused.iter().all(|&word| word == 0), "an unused place is not 0");
     for place in standing.chunks(2) {
         let (base, end) = (place[0] as usize, place[1] as usize);
@@ -135,7 +150,7 @@ fn with_regions(regions: &Regions) -> ConfidentialVm {
 #[test]
 fn regions_come_and_go_as_in_the_rust() {
     let random = &mut Random::new(3);
-    let mut answers = [0; 12];
+    let (mut answers, mut defined, mut removed) = ([0; 12], [0; 2], [0; 3]);
     for round in 0..300 {
         let mut vm = two_harts();
         let mut regions = Regions::new();
@@ -147,18 +162,23 @@ fn regions_come_and_go_as_in_the_rust() {
                 _ => random.below(64) * unit,
             };
             let size = if random.one_in(12) { any(random) } else { random.below(6) * unit };
-            let Ok(region) = new_region(start as u64, size as u64) else {
-                assert_eq!(new_region(start as u64, size as u64), Err(11));
-                assert_eq!(start.checked_add(size), None);
+            let (made, region) = new_region(start as u64, size as u64);
+            if start.checked_add(size).is_none() {
+                assert_eq!((made, region), (11, [0, 0]), "{start} {size}");
                 answers[11] += 1;
                 continue;
-            };
+            }
             let rust = ConfidentialVmMmioRegion::new(start, size).expect("making an address never fails");
-            assert_eq!(region, [rust.base_address.usize() as u64, rust.one_past_the_end_address.usize() as u64]);
-            assert_eq!(regions.is_mmio_region_defined(region), vm.is_mmio_region_defined(&rust), "{round} {region:?} {regions:?}");
+            let ends = [&rust.base_address, &rust.one_past_the_end_address].map(|address| address.usize() as u64);
+            assert_eq!((made, region), (0, ends), "{start} {size}");
+            let yes = regions.is_mmio_region_defined(region);
+            assert_eq!(yes, vm.is_mmio_region_defined(&rust), "{round} {region:?} {regions:?}");
+            defined[yes as usize] += 1;
             if random.one_in(4) {
+                let before = regions.count;
                 regions.remove(region);
                 vm.remove_mmio_region(&rust);
+                removed[(before - regions.count).min(2) as usize] += 1;
             } else {
                 let answer = regions.add(region);
                 assert_eq!(answer, number(vm.add_mmio_region(rust)), "{round} {region:?}");
@@ -167,23 +187,31 @@ fn regions_come_and_go_as_in_the_rust() {
             assert_eq!(with_regions(&regions), vm, "{round} {region:?}");
         }
     }
-    assert!([0, 10, 11].iter().all(|&number: &usize| answers[number] > 100), "{answers:?}");
+    assert!([0, 10, 11].iter().all(|&number: &usize| answers[number] > 100), "added, overlapping and too large: {answers:?}");
+    assert!(defined.iter().chain(&removed).all(|&times| times > 100), "no and yes: {defined:?}; none, one and more: {removed:?}");
 }
 
 #[test]
 fn the_1025th_region_is_refused_as_in_the_rust() {
+    let random = &mut Random::new(6);
     let mut vm = two_harts();
     let mut regions = Regions::new();
-    for i in 0..=MOST_REGIONS {
-        let region = new_region(8 * i as u64, 8).expect("in range");
-        let rust = vm.add_mmio_region(ConfidentialVmMmioRegion::new(8 * i, 8).expect("in range"));
-        assert_eq!(regions.add(region), number(rust), "{i}");
+    // 1,024 regions side by side, added in any order, and one more beyond them.
+    let mut starts: Vec<usize> = (0..MOST_REGIONS).map(|i| 8 * i).collect();
+    for i in (1..starts.len()).rev() {
+        starts.swap(i, random.below(i + 1));
+    }
+    starts.push(8 * MOST_REGIONS);
+    for start in starts {
+        let (_, region) = new_region(start as u64, 8);
+        let rust = vm.add_mmio_region(ConfidentialVmMmioRegion::new(start, 8).expect("in range"));
+        assert_eq!(regions.add(region), number(rust), "{start}");
     }
     // Full comes before overlapping.
     let again = vm.add_mmio_region(ConfidentialVmMmioRegion::new(0, 8).expect("in range"));
-    assert_eq!((regions.add([0, 8]), 9), (number(again), 9));
+    assert_eq!([regions.add([0, 8]), number(again)], [9, 9]);
     assert_eq!(with_regions(&regions), vm);
-    // One region that overlaps every other second one, one that overlaps all.
+    // Two, then a fifth of them scattered over the table, then all.
     for (base, end) in [(4, 12), (8 * 500 + 7, 8 * 700 + 1), (0, u64::MAX)] {
         regions.remove([base, end]);
         vm.remove_mmio_region(&ConfidentialVmMmioRegion::new(base as usize, (end - base) as usize).expect("in range"));
@@ -297,4 +325,105 @@ fn a_dummy_changes_nowhere() {
         assert_eq!([ours.suspend(), ours.stop(), ours.wake(1, 2), ours.off()], [16; 4]);
         assert_eq!((ours, hart_words(&rust)), (before, before));
     }
+}
+
+/// Document 01: a record's parts are known ones, an absent operation has two zeros, and a dummy is Started, has no operation and zero registers.
+fn is_record(row: &Row) -> bool {
+    let [vm, _, lifecycle, operation, x, y, registers @ ..] = row.0;
+    let absent = operation != 0 || (x == 0 && y == 0);
+    let dummy = vm != 0 || (lifecycle == 0 && operation == 0 && registers == [0; 6]);
+    vm <= 1 && lifecycle <= 3 && operation <= 5 && absent && dummy
+}
+
+#[test]
+fn a_record_that_is_not_one_is_12_and_stays() {
+    let random = &mut Random::new(7);
+    let mut seen = [0; 2];
+    for round in 0..100_000 {
+        let mut row = if round % 5 == 4 { Row::dummy(any(random) as u64) } else { hart_words(&hart_in(round % 5, random)) };
+        let numbers = [0, 1, 2, 3, 4, 5, 6, 7, 1 << 32, u64::MAX];
+        for _ in 0..random.below(3) {
+            row.0[random.below(HART_WORDS)] = random.of(&numbers);
+        }
+        let good = is_record(&row);
+        seen[good as usize] += 1;
+        assert_eq!(row.is_well_formed(), good, "{row:?}");
+        let changes: [fn(&mut Row) -> u64; 5] = [|row| row.start(1, 2), Row::suspend, Row::stop, |row| row.wake(1, 2), Row::off];
+        for (change, dummys) in changes.iter().zip([2, 16, 16, 16, 16]) {
+            let mut after = row;
+            let number = change(&mut after);
+            assert_eq!(number == 12, !good, "{row:?}");
+            assert_eq!(number == dummys, good && row.0[0] == 0, "{row:?}");
+            assert!(number == 0 || after == row, "{row:?}");
+        }
+    }
+    assert!(seen.iter().all(|&times| times > 10_000), "damaged and not: {seen:?}");
+}
+
+/// Document 01: the count is in range, each command that waits is well formed, and unused places are 0.
+fn is_queue(queue: &Queue) -> bool {
+    let count = queue.0[0] as usize;
+    let form = |place: &[u64]| {
+        let numbers: [usize; 6] = std::array::from_fn(|i| place[i] as usize);
+        Command::of_numbers(&numbers).to_remote_command().is_some()
+    };
+    count <= 64 && queue.0[1..].chunks(6).enumerate().all(|(i, place)| if i < count { form(place) } else { place == [0; 6] })
+}
+
+#[test]
+fn a_queue_with_one_damaged_word_is_told() {
+    let random = &mut Random::new(8);
+    let mut seen = [0; 2];
+    for _ in 0..2_000 {
+        let mut queue = Queue([0; QUEUE_WORDS]);
+        for _ in 0..random.below(70) {
+            let command = command(random);
+            if command.to_remote_command().is_some() {
+                queue.offer(command);
+            }
+        }
+        assert!(is_queue(&queue) && queue.is_well_formed());
+        for _ in 0..50 {
+            let mut damaged = queue.clone();
+            let last = 1 + 6 * queue.0[0] as usize;
+            let place = if random.one_in(2) { random.below(QUEUE_WORDS) } else { random.below(last) };
+            damaged.0[place] = random.of(&[0, 1, 3, 6, 7, 63, 64, 65, 1 << 63, u64::MAX]);
+            seen[is_queue(&damaged) as usize] += 1;
+            assert_eq!(damaged.is_well_formed(), is_queue(&damaged), "{place} {damaged:?}");
+        }
+    }
+    assert!(seen.iter().all(|&times| times > 10_000), "damaged and not: {seen:?}");
+}
+
+/// Document 01: room for 1,024, the count in range, base ≤ end, and unused places are 0.
+fn is_region_table(regions: &Regions) -> bool {
+    regions.words.len() >= 2 * MOST_REGIONS && regions.count <= MOST_REGIONS as u64 && {
+        let (standing, unused) = regions.words[..2 * MOST_REGIONS].split_at(2 * regions.count as usize);
+        standing.chunks(2).all(|place| place[0] <= place[1]) && unused.iter().all(|&word| word == 0)
+    }
+}
+
+#[test]
+fn a_damaged_region_table_is_told() {
+    let random = &mut Random::new(9);
+    let mut seen = [0; 2];
+    for count in [0, 1, 2, 1000, MOST_REGIONS - 1, MOST_REGIONS] {
+        let mut regions = Regions::new();
+        for i in 0..count {
+            assert_eq!(regions.add(new_region(8 * i as u64, 8 * (i % 2) as u64).1), 0);
+        }
+        assert!(is_region_table(&regions) && regions.are_sound());
+        for _ in 0..3_000 {
+            let mut damaged = regions.clone();
+            match random.below(4) {
+                0 => damaged.count = random.of(&[0, 1, count as u64 + 1, 1023, 1024, 1025, 1 << 63, u64::MAX]),
+                1 => damaged.words.truncate(random.of(&[0, 1, 2 * MOST_REGIONS - 1, 2 * MOST_REGIONS, 2 * MOST_REGIONS + 1])),
+                2 => damaged.words[random.below(2 * count + 1)] = any(random) as u64,
+                _ => damaged.words[random.below(2 * MOST_REGIONS + 3)] = any(random) as u64,
+            }
+            seen[is_region_table(&damaged) as usize] += 1;
+            assert_eq!(damaged.are_sound(), is_region_table(&damaged), "{} {}", damaged.count, damaged.words.len());
+        }
+    }
+    assert!(seen.iter().all(|&times| times > 1_000), "damaged and not: {seen:?}");
 }
