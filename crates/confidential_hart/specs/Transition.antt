@@ -34,18 +34,22 @@ transition change idle registers h =
     (pick (isDummy h) (refusal idle h)
     (applied (change (h .lifecycle)) registers h))
 
--- the five
+-- start: a dummy is 2
 abbrev pub afterStart : ℕ → ℕ → ConfidentialHart → Transition
 afterStart address opaque h = transition start hartAlreadyRunning (startRegisters (h .id) address opaque (h .registers)) h
 
+-- suspend: a dummy is 16 here and in the three below
 abbrev pub afterSuspend : ConfidentialHart → Transition
 afterSuspend h = transition suspend hardwareHartIdle (h .registers) h
 
+-- stop
 abbrev pub afterStop : ConfidentialHart → Transition
 afterStop h = transition stop hardwareHartIdle (h .registers) h
 
+-- wake
 abbrev pub afterWake : ℕ → ℕ → ConfidentialHart → Transition
 afterWake address opaque h = transition wake hardwareHartIdle (wakeRegisters address opaque (h .registers)) h
 
+-- off
 abbrev pub afterOff : ConfidentialHart → Transition
 afterOff h = transition off hardwareHartIdle (h .registers) h

@@ -56,11 +56,11 @@ same a b =
     && eqb (a .size) (b .size)
     && eqb (a .tag) (b .tag)
 
--- a command takes as many words in a table
+-- how many words a command has
 abbrev pub commandWords : ℕ
 commandWords = 6
 
--- the command that words hold, and the words of a command
+-- the command that words hold
 abbrev pub fromWords : List ℕ → ConfidentialHartRemoteCommand
 fromWords ws =
     record {
@@ -72,5 +72,6 @@ fromWords ws =
       tag = getD ws 5 0;
     }
 
+-- the words of a command
 abbrev pub toWords : ConfidentialHartRemoteCommand → List ℕ
 toWords c = c .kind ∷ c .mask ∷ c .base ∷ c .start ∷ c .size ∷ c .tag ∷ []

@@ -29,20 +29,23 @@ pub data Entry : Type 0 where
 unfoldable pub only : ℕ → ℕ → ℕ → ℕ → Entry
 only from to refusal state = pick (eqb state from) (becomes to) (refused refusal)
 
--- the five changes
+-- start leads from Stopped to Started
 abbrev pub start : ℕ → Entry
 start = only stopped started cannotStartNotStoppedHart
 
+-- suspend leads from Started to Suspended
 abbrev pub suspend : ℕ → Entry
 suspend = only started suspended cannotSuspedNotStartedHart
 
+-- stop leads from Started to Stopped
 abbrev pub stop : ℕ → Entry
 stop = only started stopped cannotStopNotStartedHart
 
+-- wake leads from Suspended to Started
 abbrev pub wake : ℕ → Entry
 wake = only suspended started cannotStartNotSuspendedHart
 
--- off leads from any state
+-- off leads from any state to PoweredOff
 abbrev pub off : ℕ → Entry
 off state = becomes poweredOff
 

@@ -28,7 +28,8 @@ pub const WAKE: u64 = 3;
 
 pub const OFF: u64 = 4;
 
-// A row a state, and in it for start, suspend, stop, wake and off the new state or the number that refuses. States are below 4, and these numbers are not.
+// A row a state, and in it for start, suspend, stop, wake and off the new state or the number that refuses. States are below 4, and these
+// numbers are not.
 const LIFECYCLE: [[u64; 5]; 4] = [
     [4, 2, 1, 7, 3],
     [0, 5, 6, 7, 3],

@@ -28,6 +28,7 @@ yWord = 5
 abbrev pub registerWord : ℕ
 registerWord = 6
 
+-- how many words a row has
 abbrev pub hartWords : ℕ
 hartWords = registerWord + registerCount
 

@@ -1,4 +1,4 @@
--- A number given back beside the words that it leaves.
+-- What the C functions answer.
 use Prim.Native.Nat.{ℕ}
 use mathlib.Core.List.{List, [], _∷_}
 use Rattle.confidential_vm_mmio_region.specs.declared.NewRegion.{NewRegion}
@@ -6,10 +6,12 @@ use Rattle.mmio_regions.specs.Table.{Outcome}
 use Rattle.confidential_hart.specs.declared.Transition.{Transition}
 use Rattle.hart_rows.specs.Rows.{toWords}
 
+-- a number given back beside the words that are left
 pub record Answer : Type 0 where
   pub number : ℕ
   pub words : List ℕ
 
+-- the two together
 abbrev pub answer : ℕ → List ℕ → Answer
 answer n ws = record { number = n; words = ws }
 

@@ -65,6 +65,7 @@ pub record Table : Type 0 where
   pub count : ℕ
   pub words : List ℕ
 
+-- the two together
 abbrev pub table : ℕ → List ℕ → Table
 table count words = record { count = count; words = words }
 

@@ -11,10 +11,11 @@ use Rattle.table_rows.specs.Choice.{pick, every, allZero, some}
 use Rattle.confidential_hart_remote_command.specs.declared.ConfidentialHartRemoteCommand.{ConfidentialHartRemoteCommand}
 use Rattle.confidential_hart_remote_command.specs.Command.{wellFormed, same, commandWords, fromWords, toWords}
 
--- a queue holds as many commands, and takes as many words
+-- how many commands a queue holds
 abbrev pub maxCommands : ℕ
 maxCommands = 64
 
+-- how many words a queue has: its count and its commands
 abbrev pub queueWords : ℕ
 queueWords = 1 + maxCommands * commandWords
 
@@ -65,6 +66,7 @@ pub record Offer : Type 0 where
   pub number : ℕ
   pub queue : List ℕ
 
+-- the two together
 abbrev pub outcome : ℕ → List ℕ → Offer
 outcome n q = record { number = n; queue = q }
 
