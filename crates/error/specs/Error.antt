@@ -1,5 +1,7 @@
 -- The numbers given back.
 use Prim.Native.Nat.{ℕ}
+use Rattle.error.specs.declared.Error.{Error}
+use Rattle.error.specs.declared.Error.the-variants.{InvalidHartId, HartAlreadyRunning, HartNotExecutable, CannotStartNotStoppedHart, CannotSuspedNotStartedHart, CannotStopNotStartedHart, CannotStartNotSuspendedHart, ReachedMaxNumberOfRemoteCommands, ReachedMaxNumberOfMmioRegions, OverlappingMmioRegion, EndTooLarge, TablesNotSound, RoomTooShort, NoSuchHardwareHart, HardwareHartBusy, HardwareHartIdle, OperationPending, SetupOutOfRange, UnknownKind, BadLine}
 
 -- done
 abbrev pub done : ℕ
@@ -84,3 +86,26 @@ unknownKind = 19
 -- a line in no form
 abbrev pub badLine : ℕ
 badLine = 20
+
+-- the number of each error
+abbrev pub numberOf : Error → ℕ
+numberOf InvalidHartId = invalidHartId
+numberOf HartAlreadyRunning = hartAlreadyRunning
+numberOf HartNotExecutable = hartNotExecutable
+numberOf CannotStartNotStoppedHart = cannotStartNotStoppedHart
+numberOf CannotSuspedNotStartedHart = cannotSuspedNotStartedHart
+numberOf CannotStopNotStartedHart = cannotStopNotStartedHart
+numberOf CannotStartNotSuspendedHart = cannotStartNotSuspendedHart
+numberOf ReachedMaxNumberOfRemoteCommands = reachedMaxNumberOfRemoteCommands
+numberOf ReachedMaxNumberOfMmioRegions = reachedMaxNumberOfMmioRegions
+numberOf OverlappingMmioRegion = overlappingMmioRegion
+numberOf EndTooLarge = endTooLarge
+numberOf TablesNotSound = tablesNotSound
+numberOf RoomTooShort = roomTooShort
+numberOf NoSuchHardwareHart = noSuchHardwareHart
+numberOf HardwareHartBusy = hardwareHartBusy
+numberOf HardwareHartIdle = hardwareHartIdle
+numberOf OperationPending = operationPending
+numberOf SetupOutOfRange = setupOutOfRange
+numberOf UnknownKind = unknownKind
+numberOf BadLine = badLine

@@ -1,7 +1,9 @@
 // SPDX-FileCopyrightText: 2023 IBM Corporation
 // SPDX-FileContributor: Wojciech Ozga <woz@zurich.ibm.com>, IBM Research - Zurich
 // SPDX-License-Identifier: Apache-2.0
-// Changed: ported to Rattle from error.rs: the errors of the hart tables as numbers, and those that the port adds.
+// Changed: ported to Rattle from error.rs: the errors of the hart tables with their numbers, and those that the port adds.
+ghost use mathlib.Core.Path.{_≡_};
+ghost use Rattle.error.specs.Error.{numberOf};
 
 // The request was done.
 pub const DONE: u64 = 0;
@@ -47,3 +49,57 @@ pub const SETUP_OUT_OF_RANGE: u64 = 18;
 pub const UNKNOWN_KIND: u64 = 19;
 
 pub const BAD_LINE: u64 = 20;
+
+// Why a request was refused: the Rust's errors, and what it asserts or leaves to others.
+pub enum Error {
+    InvalidHartId,
+    HartAlreadyRunning,
+    HartNotExecutable,
+    CannotStartNotStoppedHart,
+    CannotSuspedNotStartedHart,
+    CannotStopNotStartedHart,
+    CannotStartNotSuspendedHart,
+    ReachedMaxNumberOfRemoteCommands,
+    ReachedMaxNumberOfMmioRegions,
+    OverlappingMmioRegion,
+    EndTooLarge,
+    TablesNotSound,
+    RoomTooShort,
+    NoSuchHardwareHart,
+    HardwareHartBusy,
+    HardwareHartIdle,
+    OperationPending,
+    SetupOutOfRange,
+    UnknownKind,
+    BadLine,
+}
+
+impl Error {
+    // Its number.
+    pub fn number(self) -> u64
+        ensures { λ r. ⌜ r ≡ numberOf self ⌝ }
+    {
+        match self {
+            Error::InvalidHartId => INVALID_HART_ID,
+            Error::HartAlreadyRunning => HART_ALREADY_RUNNING,
+            Error::HartNotExecutable => HART_NOT_EXECUTABLE,
+            Error::CannotStartNotStoppedHart => CANNOT_START_NOT_STOPPED_HART,
+            Error::CannotSuspedNotStartedHart => CANNOT_SUSPED_NOT_STARTED_HART,
+            Error::CannotStopNotStartedHart => CANNOT_STOP_NOT_STARTED_HART,
+            Error::CannotStartNotSuspendedHart => CANNOT_START_NOT_SUSPENDED_HART,
+            Error::ReachedMaxNumberOfRemoteCommands => REACHED_MAX_NUMBER_OF_REMOTE_COMMANDS,
+            Error::ReachedMaxNumberOfMmioRegions => REACHED_MAX_NUMBER_OF_MMIO_REGIONS,
+            Error::OverlappingMmioRegion => OVERLAPPING_MMIO_REGION,
+            Error::EndTooLarge => END_TOO_LARGE,
+            Error::TablesNotSound => TABLES_NOT_SOUND,
+            Error::RoomTooShort => ROOM_TOO_SHORT,
+            Error::NoSuchHardwareHart => NO_SUCH_HARDWARE_HART,
+            Error::HardwareHartBusy => HARDWARE_HART_BUSY,
+            Error::HardwareHartIdle => HARDWARE_HART_IDLE,
+            Error::OperationPending => OPERATION_PENDING,
+            Error::SetupOutOfRange => SETUP_OUT_OF_RANGE,
+            Error::UnknownKind => UNKNOWN_KIND,
+            Error::BadLine => BAD_LINE,
+        }
+    }
+}

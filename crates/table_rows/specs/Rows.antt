@@ -19,3 +19,8 @@ put w xs i ys = take (i * w) xs ++ (ys ++ drop (i * w + w) xs)
 abbrev pub words : ℕ → List ℕ → ℕ → List ℕ
 words zero ys i = []
 words (suc n) ys i = getD ys i 0 ∷ words n ys (suc i)
+
+-- n rows, one after the other
+unfoldable pub rowsOf : (ℕ → List ℕ) → ℕ → List ℕ
+rowsOf f zero = []
+rowsOf f (suc n) = rowsOf f n ++ f n

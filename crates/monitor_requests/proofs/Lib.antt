@@ -1,0 +1,1 @@
+-- What belongs to no one function of `monitor_requests`.

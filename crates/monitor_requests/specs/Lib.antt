@@ -1,0 +1,4 @@
+-- The definitions that the promises of the monitor cite.
+pub mod Tables
+pub mod Answers
+pub mod Requests

@@ -1,0 +1,267 @@
+-- What the monitor is: for each request its tests in order, and then its effect.
+use Prim.Native.Nat.{ℕ, zero, suc, _+_, _*_}
+use mathlib.Core.Bool.{Bool, true, false, _&&_, _||_, not}
+use mathlib.Core.List.{List, [], _∷_, _++_}
+use lib.Bits.{bitOr}
+use lib.ListN.{length, set, drop, replicate}
+use lib.Dec.{eqb, leb, ltb}
+use Rattle.error.specs.declared.Error.{Error}
+use Rattle.error.specs.declared.Error.the-variants.{
+  InvalidHartId,
+  HartAlreadyRunning,
+  HartNotExecutable,
+  CannotStartNotStoppedHart,
+  ReachedMaxNumberOfRemoteCommands,
+  ReachedMaxNumberOfMmioRegions,
+  OverlappingMmioRegion,
+  EndTooLarge,
+  TablesNotSound,
+  RoomTooShort,
+  NoSuchHardwareHart,
+  HardwareHartBusy,
+  HardwareHartIdle,
+  SetupOutOfRange,
+  UnknownKind,
+}
+use Rattle.bits.specs.Bit.{setBit}
+use Rattle.table_rows.specs.Rows.{row, put, rowsOf}
+use Rattle.table_rows.specs.Choice.{pick, every}
+use Rattle.confidential_vm_mmio_region.specs.declared.ConfidentialVmMmioRegion.{ConfidentialVmMmioRegion}
+use Rattle.confidential_vm_mmio_region.specs.Region.{maxEnd, regionOf}
+use Rattle.mmio_regions.specs.Regions.{maxRegions, anyOverlaps, anyContains, withRemoved}
+use Rattle.mmio_regions.specs.Table.{regionWords, laid}
+use Rattle.confidential_hart_remote_command.specs.declared.ConfidentialHartRemoteCommand.{ConfidentialHartRemoteCommand}
+use Rattle.confidential_hart_remote_command.specs.Command.{wellFormed}
+use Rattle.confidential_hart_remote_command.specs.Selection.{selects}
+use Rattle.remote_commands.specs.Queue.{maxCommands, queueWords, count, offered}
+use Rattle.hart_lifecycle_state.specs.Lifecycle.{Entry, becomes, refused, started, suspended, start}
+use Rattle.confidential_hart.specs.declared.ConfidentialHart.{ConfidentialHart}
+use Rattle.confidential_hart.specs.Hart.{isDummy, dummy, resetHart, bootHart}
+use Rattle.confidential_hart.specs.Transition.{afterStart}
+use Rattle.hart_rows.specs.Rows.{hartWords, hartAt, toWords}
+use Rattle.monitor_requests.specs.declared.Setup as declared
+use Rattle.monitor_requests.specs.declared.Request.{Request}
+use Rattle.monitor_requests.specs.declared.Request.the-variants.{
+  Setup,
+  Steal,
+  Return,
+  Start,
+  Status,
+  Home,
+  Send,
+  Allow,
+  Add,
+  Remove,
+  Defined,
+}
+use Rattle.monitor_requests.specs.declared.Answer.{Answer}
+use Rattle.monitor_requests.specs.declared.Answer.the-variants.{Refused, Done, Mask, State, Flag}
+use Rattle.monitor_requests.specs.Tables.{
+  Tables,
+  tables,
+  headWords,
+  allowedWord,
+  regionsWord,
+  harts,
+  hardwareHarts,
+  allowed,
+  regionCount,
+  homeHart,
+  hardwareHart,
+  regionsOf,
+  countsInRange,
+  longEnough,
+  sound,
+}
+
+-- the answer, and the tables afterwards
+pub record Outcome : Type 0 where
+  pub answer : Answer
+  pub after : Tables
+
+-- the two together
+abbrev pub outcome : Answer → Tables → Outcome
+outcome answer after = record { answer = answer; after = after }
+
+-- a test: the error that is given exactly when it holds
+pub record Test : Type 0 where
+  pub error : Error
+  pub when : Bool
+
+abbrev pub refuse : Error → Bool → Test
+refuse error when = record { error = error; when = when }
+
+-- tests in order: the first that holds refuses and changes nothing; if none holds, what follows them
+abbrev pub judged : List Test → Tables → Outcome → Outcome
+judged [] t next = next
+judged (x ∷ xs) t next = pick (x .when) (outcome (Refused (x .error)) t) (judged xs t next)
+
+-- ---- parts of tests
+
+-- 12: the tables are not sound
+abbrev pub unsound : Tables → Test
+unsound t = refuse TablesNotSound (not (sound t))
+
+-- 14: the hardware hart's number is m or above
+abbrev pub noHardwareHart : ℕ → Tables → Test
+noHardwareHart k t = refuse NoSuchHardwareHart (leb (hardwareHarts t) k)
+
+-- 1: the hart's number is n or above
+abbrev pub noHart : ℕ → Tables → Test
+noHart h t = refuse InvalidHartId (leb (harts t) h)
+
+-- 2: the home row holds a dummy
+abbrev pub away : ℕ → Tables → Test
+away h t = refuse HartAlreadyRunning (isDummy (homeHart t h))
+
+-- 11: base + size is above 2^64 − 1
+abbrev pub tooLarge : ℕ → ℕ → Test
+tooLarge base size = refuse EndTooLarge (ltb maxEnd (base + size))
+
+-- the lifecycle is Started or Suspended. A dummy is Started
+abbrev pub isExecutable : ConfidentialHart → Bool
+isExecutable h = eqb (h .lifecycle) started || eqb (h .lifecycle) suspended
+
+-- the lifecycle's table refuses
+unfoldable pub refuses : Entry → Bool
+refuses (becomes state) = false
+refuses (refused number) = true
+
+-- the region of a base and a size
+abbrev pub regionFrom : ℕ → ℕ → ConfidentialVmMmioRegion
+regionFrom base size = regionOf base (base + size)
+
+-- ---- the tests of each request, in order. Setup never gives 12, and every other request gives it first
+
+unfoldable pub tests : Request → Tables → List Test
+tests (Setup s) t =
+    refuse SetupOutOfRange (not (countsInRange (s .harts) (s .hardware) && ltb (s .boot) (s .harts)))
+    ∷ refuse RoomTooShort (not (longEnough t (s .harts) (s .hardware)))
+    ∷ []
+tests (Steal hart on) t =
+    unsound t
+    ∷ noHardwareHart (on .0) t
+    ∷ refuse HardwareHartBusy (not (isDummy (hardwareHart t (on .0))))
+    ∷ noHart (hart .0) t
+    ∷ away (hart .0) t
+    ∷ refuse HartNotExecutable (not (isExecutable (homeHart t (hart .0))))
+    ∷ []
+tests (Return on) t =
+    unsound t
+    ∷ noHardwareHart (on .0) t
+    ∷ refuse HardwareHartIdle (isDummy (hardwareHart t (on .0)))
+    ∷ []
+tests (Start hart address opaque) t =
+    unsound t
+    ∷ noHart (hart .0) t
+    ∷ away (hart .0) t
+    ∷ refuse CannotStartNotStoppedHart (refuses (start (homeHart t (hart .0) .lifecycle)))
+    ∷ []
+tests (Status hart) t = unsound t ∷ noHart (hart .0) t ∷ []
+tests Home t = unsound t ∷ []
+tests (Send sender c) t = unsound t ∷ refuse UnknownKind (not (wellFormed c)) ∷ []
+tests (Allow bits) t = unsound t ∷ []
+tests (Add base size) t =
+    unsound t
+    ∷ tooLarge base size
+    ∷ refuse ReachedMaxNumberOfMmioRegions (leb maxRegions (length (regionsOf t)))
+    ∷ refuse OverlappingMmioRegion (anyOverlaps (regionFrom base size) (regionsOf t))
+    ∷ []
+tests (Remove base size) t = unsound t ∷ tooLarge base size ∷ []
+tests (Defined base size) t = unsound t ∷ tooLarge base size ∷ []
+
+-- ---- parts of effects
+
+-- the tables with other words in the place of one of them
+abbrev pub withHead : List ℕ → Tables → Tables
+withHead head t = tables head (t .home) (t .hardware) (t .queues) (t .regions)
+
+abbrev pub withHome : List ℕ → Tables → Tables
+withHome home t = tables (t .head) home (t .hardware) (t .queues) (t .regions)
+
+abbrev pub withQueues : List ℕ → Tables → Tables
+withQueues queues t = tables (t .head) (t .home) (t .hardware) queues (t .regions)
+
+-- the regions rs stand instead of those that stood
+abbrev pub withRegions : List ConfidentialVmMmioRegion → Tables → Tables
+withRegions rs t =
+    tables (set (t .head) regionsWord (length rs)) (t .home) (t .hardware) (t .queues) (laid (t .regions) (regionCount t) rs)
+
+-- home row h and hardware row k are exchanged
+abbrev pub exchanged : ℕ → ℕ → Tables → Tables
+exchanged h k t =
+    tables (t .head) (put hartWords (t .home) h (row hartWords (t .hardware) k)) (put hartWords (t .hardware) k (row hartWords (t .home) h))
+    (t .queues)
+    (t .regions)
+
+-- words over the front of others
+abbrev pub over : List ℕ → List ℕ → List ℕ
+over front words = front ++ drop (length front) words
+
+-- hart h at setup: the boot hart or one after a reset
+abbrev pub setupHart : declared.Setup → ℕ → ConfidentialHart
+setupHart s h = pick (eqb h (s .boot)) (bootHart h (s .mepc) (s .a1) (s .vsatp) (s .vsstatus)) (resetHart h)
+
+-- the tables at setup: n harts at home, m dummies, and all else empty or 0
+abbrev pub fresh : declared.Setup → Tables → Tables
+fresh s t =
+    tables
+    (over (s .harts ∷ s .hardware ∷ 0 ∷ 0 ∷ []) (t .head))
+    (over (rowsOf (λ h. toWords (setupHart s h)) (s .harts)) (t .home))
+    (over (rowsOf (λ k. toWords (dummy k)) (s .hardware)) (t .hardware))
+    (over (replicate (s .harts * queueWords) 0) (t .queues))
+    (over (replicate (maxRegions * regionWords) 0) (t .regions))
+
+-- ---- a broadcast
+
+-- hart h receives: it is selected, it is not the sender, and its home row is Started or Suspended
+unfoldable pub receives : List ℕ → ℕ → ConfidentialHartRemoteCommand → ℕ → Bool
+receives home sender c h = selects c h && not (eqb h sender) && isExecutable (hartAt home h)
+
+-- the mask once a receiver has the command: a dummy in its home row adds the bit of its hardware hart
+abbrev pub interrupting : ConfidentialHart → ℕ → ℕ
+interrupting x mask = pick (isDummy x) (setBit (x .id) mask) mask
+
+-- the answer of a broadcast, and the queues afterwards
+pub record Delivery : Type 0 where
+  pub answer : Answer
+  pub queues : List ℕ
+
+-- the two together
+abbrev pub delivery : Answer → List ℕ → Delivery
+delivery answer queues = record { answer = answer; queues = queues }
+
+-- the harts from h on, so many left to visit, with the mask so far: one that does not receive is passed over, a queue of 64 refuses and ends
+-- the broadcast, and else the command is offered to the hart's queue
+unfoldable pub deliver : List ℕ → ℕ → ConfidentialHartRemoteCommand → ℕ → ℕ → ℕ → List ℕ → Delivery
+deliver home sender c zero h mask queues = delivery (Mask mask) queues
+deliver home sender c (suc left) h mask queues =
+    pick (not (receives home sender c h)) (deliver home sender c left (h + 1) mask queues)
+    (pick (leb maxCommands (count (row queueWords queues h))) (delivery (Refused ReachedMaxNumberOfRemoteCommands) queues)
+    (deliver home sender c left (h + 1) (interrupting (hartAt home h) mask)
+    (put queueWords queues h (offered (row queueWords queues h) c .queue))))
+
+-- the whole broadcast
+abbrev pub broadcast : ℕ → ConfidentialHartRemoteCommand → Tables → Delivery
+broadcast sender c t = deliver (t .home) sender c (harts t) 0 0 (t .queues)
+
+-- ---- the effect of each request, once its tests are passed: its answer, and the tables afterwards
+
+unfoldable pub effect : Request → Tables → Outcome
+effect (Setup s) t = outcome Done (fresh s t)
+effect (Steal hart on) t = outcome (Mask (allowed t)) (exchanged (hart .0) (on .0) t)
+effect (Return on) t = outcome Done (exchanged (hardwareHart t (on .0) .id) (on .0) t)
+effect (Start hart address opaque) t =
+    outcome Done (withHome (put hartWords (t .home) (hart .0) (toWords (afterStart address opaque (homeHart t (hart .0)) .hart))) t)
+effect (Status hart) t = outcome (State (homeHart t (hart .0) .lifecycle)) t
+effect Home t = outcome (Flag (every (λ h. not (isDummy (homeHart t h))) (harts t))) t
+effect (Send sender c) t = outcome (broadcast sender c t .answer) (withQueues (broadcast sender c t .queues) t)
+effect (Allow bits) t = outcome Done (withHead (set (t .head) allowedWord (bitOr (allowed t) bits)) t)
+effect (Add base size) t = outcome Done (withRegions (regionsOf t ++ (regionFrom base size ∷ [])) t)
+effect (Remove base size) t = outcome Done (withRegions (withRemoved (regionFrom base size) (regionsOf t)) t)
+effect (Defined base size) t = outcome (Flag (anyContains (regionFrom base size) (regionsOf t))) t
+
+-- ---- a request as a whole: its answer, and the tables afterwards, whatever the tables were
+
+unfoldable pub performed : Request → Tables → Outcome
+performed r t = judged (tests r t) t (effect r t)
