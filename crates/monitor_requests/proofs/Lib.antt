@@ -1,1 +1,2 @@
--- What belongs to no one function of `monitor_requests`.
+-- The laws of the definitions.
+pub mod SoundLaws
