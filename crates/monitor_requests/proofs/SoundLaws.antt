@@ -6,11 +6,12 @@ use mathlib.Core.Bool.{Bool, true, false, _&&_}
 use mathlib.Core.List.{List}
 use lib.ListN.{length}
 use lib.Dec.{eqb, leb, ltb}
-use borrow.Author.Tests.{eq-eqb, ne-eqb, eqb-true, le-leb, leb-true, lt-ltb, ltb-true}
+use native.Mathlib.Omega.{arith}
+use borrow.Author.Tests.{eq-eqb, ne-eqb, eqb-true, eqb-false, le-leb, leb-true, lt-ltb, ltb-true}
 use Rattle.table_rows.specs.Choice.{pick, every}
 use Rattle.table_rows.proofs.PickLaws.{yes, no, and-left, and-right, and-both}
 use Rattle.table_rows.proofs.EveryLaws.{every-at, every-of}
-use Rattle.confidential_hart.specs.Hart.{wellFormed}
+use Rattle.confidential_hart.specs.Hart.{noVm, theVm, isDummy, wellFormed}
 use Rattle.hart_rows.specs.Rows.{hartWords, hartAt}
 use Rattle.remote_commands.specs.Queue.{queueWords, queueWellFormed}
 use Rattle.mmio_regions.specs.Regions.{maxRegions}
@@ -22,6 +23,8 @@ use Rattle.monitor_requests.specs.Tables.{
   harts,
   hardwareHarts,
   regionCount,
+  homeHart,
+  hardwareHart,
   queue,
   maxHarts,
   maxHardwareHarts,
@@ -252,3 +255,22 @@ module _ (t : Tables) where
       (every-of (hardwareRowSound t) (hardwareHarts t) (f .hardware-row)))
       (every-of (λ h. queueWellFormed (queue t h)) (harts t) (f .queue-formed)))
       (f .regions-sound)
+
+-- ---- what a caller asks of a row of sound tables
+
+module _ (t : Tables) (s : sound t ≡ true) where
+  pub home-formed : (h : ℕ) → h < harts t → wellFormed (homeHart t h) ≡ true
+  home-formed h l = row-formed theVm (t .home) (t .hardware) (hardwareHarts t) h (sound-facts t s .home-row h l)
+
+  pub hardware-formed : (k : ℕ) → k < hardwareHarts t → wellFormed (hardwareHart t k) ≡ true
+  hardware-formed k l = row-formed noVm (t .hardware) (t .home) (harts t) k (sound-facts t s .hardware-row k l)
+
+  -- a dummy at home names a hardware row, which holds the hart of this row
+  pub away-names : (h : ℕ) → h < harts t → isDummy (homeHart t h) ≡ true → Names theVm (t .home) (t .hardware) (hardwareHarts t) h
+  away-names h l d =
+      let none : homeHart t h .vm ≡ noVm = eqb-true _ _ d in
+      row-names theVm (t .home) (t .hardware) (hardwareHarts t) h (sound-facts t s .home-row h l) (λ e. omega arith)
+
+  -- a real hart on hardware names a home row, which holds the dummy of this row
+  pub held-names : (k : ℕ) → k < hardwareHarts t → isDummy (hardwareHart t k) ≡ false → Names noVm (t .hardware) (t .home) (harts t) k
+  held-names k l d = row-names noVm (t .hardware) (t .home) (harts t) k (sound-facts t s .hardware-row k l) (eqb-false _ _ d)
