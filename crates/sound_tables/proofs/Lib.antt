@@ -1,0 +1,2 @@
+-- What belongs to no one function of `sound_tables`.
+pub mod JudgeLaws
