@@ -1,3 +1,8 @@
 -- The laws of the definitions.
 pub mod SoundLaws
 pub mod ChangeLaws
+pub mod MoveLaws
+pub mod SetupLaws
+pub mod RegionLaws
+pub mod BroadcastLaws
+pub mod Examples

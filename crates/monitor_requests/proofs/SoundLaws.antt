@@ -30,6 +30,7 @@ use Rattle.monitor_requests.specs.Tables.{
   maxHardwareHarts,
   countsInRange,
   longEnough,
+  Long,
   rowSound,
   homeRowSound,
   hardwareRowSound,
@@ -133,13 +134,6 @@ module _ (n m : ℕ) where
     range-few-hardware = leb-true _ _ (and-right (leb 1 n && leb n maxHarts && leb 1 m) (leb m maxHardwareHarts) r)
 
 -- how long they are
-pub record Long (t : Tables) (n m : ℕ) : Type 0 where
-  pub head-long : headWords ≤ length (t .head)
-  pub home-long : n * hartWords ≤ length (t .home)
-  pub hardware-long : m * hartWords ≤ length (t .hardware)
-  pub queues-long : n * queueWords ≤ length (t .queues)
-  pub regions-long : maxRegions * regionWords ≤ length (t .regions)
-
 module _ (t : Tables) (n m : ℕ) where
   abbrev long-head : Bool
   long-head = leb headWords (length (t .head))

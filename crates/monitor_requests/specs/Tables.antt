@@ -96,6 +96,14 @@ longEnough t n m =
     && leb (n * queueWords) (length (t .queues))
     && leb (maxRegions * regionWords) (length (t .regions))
 
+-- the same length by length
+pub record Long (t : Tables) (n m : ℕ) : Type 0 where
+  pub head-long : headWords ≤ length (t .head)
+  pub home-long : n * hartWords ≤ length (t .home)
+  pub hardware-long : m * hartWords ≤ length (t .hardware)
+  pub queues-long : n * queueWords ≤ length (t .queues)
+  pub regions-long : maxRegions * regionWords ≤ length (t .regions)
+
 -- record i is as it must be, and the row holds its own, number i of the VM `own`; or it holds one of the other table, whose row of that
 -- number, one of the count there, holds this row's own
 unfoldable pub rowSound : ℕ → List ℕ → List ℕ → ℕ → ℕ → Bool

@@ -1,10 +1,10 @@
 -- What `is_row_sound` answers on each of its ways, and what `are_tables_sound` does. Assumes nothing.
 use Prim.Native.Nat.{ℕ, _+_, _-_, _*_, _≤_, _<_}
-use mathlib.Core.Path.{_≡_, refl, sym, ap, _∙_}
+use mathlib.Core.Path.{_≡_, ap, _∙_}
 use mathlib.Core.Bool.{Bool, true, false, not, _&&_, and-false}
 use mathlib.Core.List.{List}
 use lib.ListN.{length, take, drop}
-use lib.Dec.{eqb, leb, ltb}
+use lib.Dec.{eqb}
 use borrow.Author.Tests.{not-true, not-false, lt-leb, lt-ltb, le-ltb}
 use Rattle.table_rows.specs.Choice.{pick, every}
 use Rattle.table_rows.proofs.PartLaws.{part-row}

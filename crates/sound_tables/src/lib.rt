@@ -58,8 +58,8 @@ fn is_row_sound(own: u64, rows: &[u64], others: &[u64], count: usize, i: usize) 
         return false;
     }
     let id = hart_tables::id(rows, i);
-    let at_home = hart_tables::vm(rows, i) == own;
-    if at_home {
+    let its_own = hart_tables::vm(rows, i) == own;
+    if its_own {
         return id == i as u64;
     }
     let j = id as usize;

@@ -5,4 +5,5 @@ pub mod SomeLaws
 pub mod ListLaws
 pub mod RowLaws
 pub mod PartLaws
+pub mod RunLaws
 pub mod ZeroLaws

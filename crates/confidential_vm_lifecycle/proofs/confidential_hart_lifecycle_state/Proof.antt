@@ -1,0 +1,21 @@
+-- `confidential_vm_lifecycle::confidential_hart_lifecycle_state` meets its contract: 12 first, and then what sound tables have. Assumes nothing.
+use mathlib.Core.Path.{refl, sym, ap, _∙_}
+use mathlib.Core.Bool.{not}
+use borrow.Author.Tests.{not-false}
+use Rattle.table_rows.proofs.PickLaws.{yes}
+use Rattle.monitor_requests.specs.Requests.{performed, tests}
+use Rattle.monitor_requests.proofs.SoundLaws.{sound-sized}
+use borrow.Author.Needs.{needs}
+use Rattle.confidential_vm_lifecycle.proofs.confidential_hart_lifecycle_state.Statement.{statement}
+use Rattle.confidential_vm_lifecycle.proofs.confidential_hart_lifecycle_state.Tie as tie
+
+returns : tie.Need-returns
+unfolding performed tests
+returns c = yes _ (ap not (sym (c .before .are-tables-sound .ensures)) ∙ c .if1 .taken) refl
+
+state-requires : tie.Need-state-requires
+state-requires c κs = let s = sym (c .before .are-tables-sound .ensures) ∙ not-false _ (c .if1 .left) in (sound-sized _ s, s)
+
+pub confidential-hart-lifecycle-state-spec : {M : Type 1} → statement M
+confidential-hart-lifecycle-state-spec =
+    tie.close (tie.spec (λ c κs. search needs) returns state-requires (λ c. search needs))

@@ -1,0 +1,22 @@
+-- `confidential_vm_lifecycle::start_confidential_hart` meets its contract: 12 first, and then what sound tables have. Assumes nothing.
+use mathlib.Core.Path.{refl, sym, ap, _∙_}
+use mathlib.Core.Bool.{not}
+use borrow.Author.Tests.{not-false}
+use Rattle.table_rows.proofs.PickLaws.{yes}
+use Rattle.monitor_requests.specs.Requests.{performed, tests}
+use Rattle.monitor_requests.proofs.SoundLaws.{sound-sized}
+use borrow.Author.Needs.{needs}
+use Rattle.confidential_vm_lifecycle.proofs.start_confidential_hart.Statement.{statement}
+use Rattle.confidential_vm_lifecycle.proofs.start_confidential_hart.Tie as tie
+
+returns : tie.Need-returns
+unfolding performed tests
+returns c = yes _ (ap not (sym (c .before .are-tables-sound .ensures)) ∙ c .if1 .taken) refl
+
+start-requires : tie.Need-start-requires
+start-requires c κs = let s = sym (c .before .before .are-tables-sound .ensures) ∙ not-false _ (c .before .if1 .left) in (sound-sized _ s, s)
+
+pub start-confidential-hart-spec : {M : Type 1} → statement M
+start-confidential-hart-spec =
+    tie.close
+    (tie.spec (λ c κs. search needs) (λ c. search needs) returns start-requires (λ c. search needs) (λ c. search needs))

@@ -1,0 +1,33 @@
+-- `confidential_vm_mmio_regions::remove_mmio_region` meets its contract: the tables are judged, and sound ones passed on. Assumes nothing.
+use mathlib.Core.Path.{refl, sym, ap, _∙_}
+use mathlib.Core.Bool.{not}
+use borrow.Author.Needs.{needs}
+use borrow.Author.Tests.{not-false}
+use Rattle.table_rows.proofs.PickLaws.{yes}
+use Rattle.monitor_requests.specs.Requests.{tests, effect, performed}
+use Rattle.monitor_requests.proofs.SoundLaws.{sound-sized}
+use Rattle.confidential_vm_mmio_regions.proofs.remove_mmio_region.Statement.{statement}
+use Rattle.confidential_vm_mmio_regions.proofs.remove_mmio_region.Tie as tie
+
+returns : tie.Need-returns
+unfolding tests effect performed
+returns c = yes _ (ap not (sym (c .before .are-tables-sound .ensures)) ∙ c .if1 .taken) refl
+
+remove-requires : tie.Need-remove-requires
+remove-requires c κs =
+    let judged = c .before .before in
+    let s = not-false _ (ap not (sym (judged .before .are-tables-sound .ensures)) ∙ judged .if1 .left) in
+    (sound-sized _ s, s)
+
+pub remove-mmio-region-spec : {M : Type 1} → statement M
+remove-mmio-region-spec =
+    tie.close
+    (tie.spec
+    (λ c κs. search needs)
+    (λ c. search needs)
+    (λ c. search needs)
+    returns
+    remove-requires
+    (λ c. search needs)
+    (λ c. search needs)
+    (λ c. search needs))

@@ -1,0 +1,3 @@
+-- What belongs to no one function of `confidential_vm_remote_commands`.
+pub mod TurnLaws
+pub mod HomesLaws

@@ -1,0 +1,407 @@
+-- A steal, a return and a start keep tables sound, and a home row and a hardware row name each other or neither does. Assumes nothing.
+use Prim.Native.Nat.{ℕ, _+_, _*_, _≤_, _<_}
+use mathlib.Core.Path.{_≡_, refl, sym, ap, _∙_}
+use mathlib.Core.Logic.{_≢_}
+use mathlib.Core.Bool.{Bool, true, false, not, _&&_}
+use mathlib.Core.List.{List}
+use native.Mathlib.Omega.{arith}
+use lib.ListN.{length}
+use lib.Dec.{eqb}
+use borrow.Author.Tests.{eq-eqb, ne-eqb, eqb-true, eqb-false, leb-false, not-true, not-false}
+use Rattle.table_rows.specs.Rows.{row, put}
+use Rattle.table_rows.proofs.PickLaws.{by-pick, by-test, and-left, and-right, and-both, not-yes}
+use Rattle.table_rows.proofs.RowLaws.{within, row-length, put-length, row-put-same, row-put-other}
+use Rattle.hart_lifecycle_state.specs.Lifecycle.{start}
+use Rattle.hart_lifecycle_state.proofs.LifecycleLaws.{told}
+use Rattle.error.specs.Error.{hartAlreadyRunning}
+use Rattle.confidential_hart.specs.declared.ConfidentialHart.{ConfidentialHart}
+use Rattle.confidential_hart.specs.declared.ConfidentialHartId.{ConfidentialHartId}
+use Rattle.confidential_hart.specs.declared.HardwareHartId.{HardwareHartId}
+use Rattle.confidential_hart.specs.Hart.{noVm, theVm, registerCount, isDummy, wellFormed}
+use Rattle.confidential_hart.specs.HartStart.{startRegisters}
+use Rattle.confidential_hart.specs.Transition.{afterStart}
+use Rattle.confidential_hart.proofs.HartLaws.{formed-facts}
+use Rattle.confidential_hart.proofs.StartLaws.{start-started}
+use Rattle.confidential_hart.proofs.TransitionLaws.{transition-keeps, transition-length, transition-formed}
+use Rattle.hart_rows.specs.Rows.{hartWords, fromWords, toWords, hartAt}
+use Rattle.hart_rows.proofs.HartRowLaws.{to-length, load-store, load-store-other}
+use Rattle.monitor_requests.specs.declared.Request.the-variants.{Steal, Return, Start}
+use Rattle.monitor_requests.specs.Tables.{Tables, tables, harts, hardwareHarts, homeHart, hardwareHart, rowSound, homeRowSound, hardwareRowSound, sound, Sized}
+use Rattle.monitor_requests.specs.Requests.{Outcome, withHome, exchanged, tests, effect, performed}
+use Rattle.monitor_requests.proofs.SoundLaws.{
+  Names,
+  row-formed,
+  row-own,
+  row-names,
+  sound-own,
+  sound-names,
+  Sound,
+  sound-facts,
+  facts-sound,
+}
+
+-- ---- a row, once rows changed
+
+-- two records that tie alike: they are of one VM and have one number
+pub record Alike (x y : ConfidentialHart) : Type 0 where
+  pub vm-same : y .vm ≡ x .vm
+  pub id-same : y .id ≡ x .id
+
+pub alike : {x y : ConfidentialHart} → y ≡ x → Alike x y
+alike e = record { vm-same = ap (λ (r : ConfidentialHart). r .vm) e; id-same = ap (λ (r : ConfidentialHart). r .id) e }
+
+-- a row stays sound where its record ties as before, and where the record that it names in the other table does
+pub row-kept : (own : ℕ) (a b a′ b′ : List ℕ) (count i : ℕ) → rowSound own a b count i ≡ true → wellFormed (hartAt a′ i) ≡ true
+    → Alike (hartAt a i) (hartAt a′ i)
+    → (Names own a b count i → Alike (hartAt b (hartAt a i .id)) (hartAt b′ (hartAt a i .id)))
+    → rowSound own a′ b′ count i ≡ true
+row-kept own a b a′ b′ count i s w here other =
+    by-test (eqb (hartAt a i .vm) own)
+    (λ e.
+    let p : hartAt a i .vm ≡ own = eqb-true _ _ e in
+    sound-own own a′ b′ count i w (here .vm-same ∙ p) (here .id-same ∙ row-own own a b count i s p))
+    (λ e.
+    let p : hartAt a i .vm ≢ own = eqb-false _ _ e in
+    let n = row-names own a b count i s p in
+    let o = other n in
+    sound-names own a′ b′ count i w (λ q. p (sym (here .vm-same) ∙ q))
+    (record {
+      there = rw (here .id-same) (n .there);
+      held = rw (here .id-same) (o .vm-same ∙ n .held);
+      back = rw (here .id-same) (o .id-same ∙ n .back);
+    }))
+
+-- ---- the exchange of two rows, said of one table: by turning the two about it is said of the other
+
+-- row h of a and row k of b are exchanged, and the other rows are as they were
+pub record Exchange (a b a′ b′ : List ℕ) (n m h k : ℕ) : Type 0 where
+  pub h-below : h < n
+  pub k-below : k < m
+  pub h-holds : hartAt a′ h ≡ hartAt b k
+  pub k-holds : hartAt b′ k ≡ hartAt a h
+  pub a-others : (i : ℕ) → i < n → i ≢ h → hartAt a′ i ≡ hartAt a i
+  pub b-others : (i : ℕ) → i < m → i ≢ k → hartAt b′ i ≡ hartAt b i
+
+pub turned : {a b a′ b′ : List ℕ} {n m h k : ℕ} → Exchange a b a′ b′ n m h k → Exchange b a b′ a′ m n k h
+turned x =
+    record {
+      h-below = x .k-below;
+      k-below = x .h-below;
+      h-holds = x .k-holds;
+      k-holds = x .h-holds;
+      a-others = x .b-others;
+      b-others = x .a-others;
+    }
+
+module _ (own : ℕ) (a b a′ b′ : List ℕ) (n m h k : ℕ) (x : Exchange a b a′ b′ n m h k) (w : wellFormed (hartAt b k) ≡ true) where
+  -- what comes to row h is well formed
+  w′ : wellFormed (hartAt a′ h) ≡ true
+  w′ = rw (x .h-holds) w
+
+  -- both rows held their own: now they name each other
+  pub row-left : hartAt a h .vm ≡ own → hartAt a h .id ≡ h → hartAt b k .vm ≢ own → hartAt b k .id ≡ k → rowSound own a′ b′ m h ≡ true
+  row-left p q r s =
+      let id : hartAt a′ h .id ≡ k = ap (λ (y : ConfidentialHart). y .id) (x .h-holds) ∙ s in
+      sound-names own a′ b′ m h w′ (λ e. r (sym (ap (λ (y : ConfidentialHart). y .vm) (x .h-holds)) ∙ e))
+      (record {
+        there = rw id (x .k-below);
+        held = rw id (ap (λ (y : ConfidentialHart). y .vm) (x .k-holds) ∙ p);
+        back = rw id (ap (λ (y : ConfidentialHart). y .id) (x .k-holds) ∙ q);
+      })
+
+  -- row k held what is row h's own: now row h holds it
+  pub row-back : hartAt b k .vm ≡ own → hartAt b k .id ≡ h → rowSound own a′ b′ m h ≡ true
+  row-back p q =
+      sound-own own a′ b′ m h w′
+      (ap (λ (y : ConfidentialHart). y .vm) (x .h-holds) ∙ p)
+      (ap (λ (y : ConfidentialHart). y .id) (x .h-holds) ∙ q)
+
+  -- so all rows are sound, where no other row names row k
+  pub rows-kept : (hartAt b k .vm ≡ own → hartAt b k .id ≡ h) → ((i : ℕ) → i < n → rowSound own a b m i ≡ true)
+      → rowSound own a′ b′ m h ≡ true
+      → (i : ℕ) → i < n → rowSound own a′ b′ m i ≡ true
+  rows-kept only s here i l =
+      by-test (eqb i h)
+      (λ e. rw (eqb-true i h e) here)
+      (λ e.
+      let ne : i ≢ h = eqb-false i h e in
+      let same : hartAt a′ i ≡ hartAt a i = x .a-others i l ne in
+      row-kept own a b a′ b′ m i (s i l) (rw same (row-formed own a b m i (s i l))) (alike same)
+      (λ r.
+      alike (x .b-others (hartAt a i .id) (r .there)
+      (λ q.
+      let v : hartAt b k .vm ≡ own = rw q at (r .held) in
+      let j : hartAt b k .id ≡ i = rw q at (r .back) in
+      ne (sym j ∙ only v)))))
+
+-- ---- the rows of sound tables
+
+module _ (t : Tables) (z : Sized t) (i : ℕ) where
+  -- a row lies within its table
+  pub home-fits : i < harts t → i * hartWords + hartWords ≤ length (t .home)
+  home-fits l = omega (arith, within hartWords i (harts t) l, z .home-long)
+
+  pub hardware-fits : i < hardwareHarts t → i * hartWords + hartWords ≤ length (t .hardware)
+  hardware-fits l = omega (arith, within hartWords i (hardwareHarts t) l, z .hardware-long)
+
+-- sound tables with other rows, as many words of them, are sound where each row is
+pub rows-sound : (t : Tables) → Sound t → (home hardware : List ℕ) → length home ≡ length (t .home) → length hardware ≡ length (t .hardware)
+    → ((h : ℕ) → h < harts t → rowSound theVm home hardware (hardwareHarts t) h ≡ true)
+    → ((k : ℕ) → k < hardwareHarts t → rowSound noVm hardware home (harts t) k ≡ true)
+    → sound (tables (t .head) home hardware (t .queues) (t .regions)) ≡ true
+rows-sound t f home hardware e d at-home on-hardware =
+    let z = f .sized in
+    facts-sound (tables (t .head) home hardware (t .queues) (t .regions))
+    (record {
+      sized = record {
+        some-harts = z .some-harts;
+        few-harts = z .few-harts;
+        some-hardware = z .some-hardware;
+        few-hardware = z .few-hardware;
+        few-regions = z .few-regions;
+        head-long = z .head-long;
+        home-long = rw e (z .home-long);
+        hardware-long = rw d (z .hardware-long);
+        queues-long = z .queues-long;
+        regions-long = z .regions-long;
+      };
+      home-row = at-home;
+      hardware-row = on-hardware;
+      queue-formed = f .queue-formed;
+      regions-sound = f .regions-sound;
+    })
+
+-- ---- the exchange of home row h and hardware row k
+
+module _ (t : Tables) (f : Sound t) (h k : ℕ) (lh : h < harts t) (lk : k < hardwareHarts t) where
+  z : Sized t
+  z = f .sized
+
+  home-row-long : length (row hartWords (t .home) h) ≡ hartWords
+  home-row-long = row-length hartWords (t .home) h (home-fits t z h lh)
+
+  hardware-row-long : length (row hartWords (t .hardware) k) ≡ hartWords
+  hardware-row-long = row-length hartWords (t .hardware) k (hardware-fits t z k lk)
+
+  pub exchange : Exchange (t .home) (t .hardware) (exchanged h k t .home) (exchanged h k t .hardware) (harts t) (hardwareHarts t) h k
+  unfolding hartAt
+  exchange =
+      record {
+        h-below = lh;
+        k-below = lk;
+        h-holds = ap fromWords (row-put-same hartWords (t .home) h (home-fits t z h lh) (row hartWords (t .hardware) k) hardware-row-long);
+        k-holds = ap fromWords (row-put-same hartWords (t .hardware) k (hardware-fits t z k lk) (row hartWords (t .home) h) home-row-long);
+        a-others = λ i l ne.
+            ap fromWords
+            (row-put-other hartWords (t .home) h (home-fits t z h lh) (row hartWords (t .hardware) k) hardware-row-long i ne (home-fits t z i l));
+        b-others = λ i l ne.
+            ap fromWords
+            (row-put-other hartWords (t .hardware) k (hardware-fits t z k lk) (row hartWords (t .home) h) home-row-long i ne (hardware-fits t z i l));
+      }
+
+  home-long : length (exchanged h k t .home) ≡ length (t .home)
+  home-long = put-length hartWords (t .home) h (home-fits t z h lh) (row hartWords (t .hardware) k) hardware-row-long
+
+  hardware-long : length (exchanged h k t .hardware) ≡ length (t .hardware)
+  hardware-long = put-length hartWords (t .hardware) k (hardware-fits t z k lk) (row hartWords (t .home) h) home-row-long
+
+  home-formed : wellFormed (homeHart t h) ≡ true
+  home-formed = row-formed theVm (t .home) (t .hardware) (hardwareHarts t) h (f .home-row h lh)
+
+  hardware-formed : wellFormed (hardwareHart t k) ≡ true
+  hardware-formed = row-formed noVm (t .hardware) (t .home) (harts t) k (f .hardware-row k lk)
+
+  -- the tables are sound where the two rows are, and where no other row names them
+  both-sound : (hardwareHart t k .vm ≡ theVm → hardwareHart t k .id ≡ h) → (homeHart t h .vm ≡ noVm → homeHart t h .id ≡ k)
+      → homeRowSound (exchanged h k t) h ≡ true
+      → hardwareRowSound (exchanged h k t) k ≡ true
+      → sound (exchanged h k t) ≡ true
+  both-sound only-h only-k here-h here-k =
+      rows-sound t f (exchanged h k t .home) (exchanged h k t .hardware) home-long hardware-long
+      (rows-kept theVm (t .home) (t .hardware) (exchanged h k t .home) (exchanged h k t .hardware) (harts t) (hardwareHarts t) h k
+      exchange
+      hardware-formed
+      only-h
+      (f .home-row)
+      here-h)
+      (rows-kept noVm (t .hardware) (t .home) (exchanged h k t .hardware) (exchanged h k t .home) (hardwareHarts t) (harts t) k h
+      (turned exchange)
+      home-formed
+      only-k
+      (f .hardware-row)
+      here-k)
+
+  -- a real hart at home and a dummy: they leave their rows
+  pub left-sound : homeHart t h .vm ≢ noVm → hardwareHart t k .vm ≡ noVm → sound (exchanged h k t) ≡ true
+  left-sound real idle =
+      let one : homeHart t h .vm ≡ theVm = omega (arith, formed-facts (homeHart t h) home-formed .vm-known) in
+      let ih : homeHart t h .id ≡ h = row-own theVm (t .home) (t .hardware) (hardwareHarts t) h (f .home-row h lh) one in
+      let ik : hardwareHart t k .id ≡ k = row-own noVm (t .hardware) (t .home) (harts t) k (f .hardware-row k lk) idle in
+      both-sound (λ e. absurd (omega arith)) (λ e. absurd (real e))
+      (row-left theVm (t .home) (t .hardware) (exchanged h k t .home) (exchanged h k t .hardware) (harts t) (hardwareHarts t) h k
+      exchange
+      hardware-formed
+      one
+      ih
+      (λ e. absurd (omega arith))
+      ik)
+      (row-left noVm (t .hardware) (t .home) (exchanged h k t .hardware) (exchanged h k t .home) (hardwareHarts t) (harts t) k h
+      (turned exchange)
+      home-formed
+      idle
+      ik
+      real
+      ih)
+
+  -- real hart h on hardware and dummy k at home: they come back to their rows
+  pub back-sound : hardwareHart t k .vm ≢ noVm → hardwareHart t k .id ≡ h → homeHart t h .vm ≡ noVm → homeHart t h .id ≡ k
+      → sound (exchanged h k t) ≡ true
+  back-sound real ih idle ik =
+      let one : hardwareHart t k .vm ≡ theVm = omega (arith, formed-facts (hardwareHart t k) hardware-formed .vm-known) in
+      both-sound (λ e. ih) (λ e. ik)
+      (row-back theVm (t .home) (t .hardware) (exchanged h k t .home) (exchanged h k t .hardware) (harts t) (hardwareHarts t) h k
+      exchange
+      hardware-formed
+      one
+      ih)
+      (row-back noVm (t .hardware) (t .home) (exchanged h k t .hardware) (exchanged h k t .home) (hardwareHarts t) (harts t) k h
+      (turned exchange)
+      home-formed
+      idle
+      ik)
+
+-- ---- a record of a home row written anew
+
+module _ (t : Tables) (f : Sound t) (h : ℕ) (lh : h < harts t) (y : ConfidentialHart) (six : length (y .registers) ≡ registerCount)
+    (w : wellFormed y ≡ true) (same : Alike (homeHart t h) y) where
+  fits : (i : ℕ) → i < harts t → i * hartWords + hartWords ≤ length (t .home)
+  fits i l = home-fits t (f .sized) i l
+
+  abbrev home′ : List ℕ
+  home′ = put hartWords (t .home) h (toWords y)
+
+  home-alike : (i : ℕ) → i < harts t → Alike (homeHart t i) (hartAt home′ i)
+  home-alike i l =
+      by-test (eqb i h)
+      (λ e. rw (eqb-true i h e, load-store (t .home) h (fits h lh) y six) same)
+      (λ e. alike (load-store-other (t .home) h (fits h lh) y i (eqb-false i h e) (fits i l)))
+
+  homes-formed : (i : ℕ) → i < harts t → wellFormed (hartAt home′ i) ≡ true
+  homes-formed i l =
+      by-test (eqb i h)
+      (λ e. rw (eqb-true i h e, load-store (t .home) h (fits h lh) y six) w)
+      (λ e.
+      rw (load-store-other (t .home) h (fits h lh) y i (eqb-false i h e) (fits i l))
+      (row-formed theVm (t .home) (t .hardware) (hardwareHarts t) i (f .home-row i l)))
+
+  -- the tables stay sound where the new record is well formed and ties as the old one
+  pub home-written-sound : sound (withHome home′ t) ≡ true
+  home-written-sound =
+      rows-sound t f home′ (t .hardware) (put-length hartWords (t .home) h (fits h lh) (toWords y) (to-length y)) refl
+      (λ i l.
+      row-kept theVm (t .home) (t .hardware) home′ (t .hardware) (hardwareHarts t) i (f .home-row i l) (homes-formed i l) (home-alike i l)
+      (λ r. alike refl))
+      (λ k l.
+      row-kept noVm (t .hardware) (t .home) (t .hardware) home′ (harts t) k (f .hardware-row k l)
+      (row-formed noVm (t .hardware) (t .home) (harts t) k (f .hardware-row k l))
+      (alike refl)
+      (λ r. home-alike (hardwareHart t k .id) (r .there)))
+
+-- a start: the record keeps its VM and its number, and stays well formed
+module _ (t : Tables) (f : Sound t) (h : ℕ) (lh : h < harts t) (address opaque : ℕ) where
+  abbrev before : ConfidentialHart
+  before = homeHart t h
+
+  abbrev registers : List ℕ
+  registers = startRegisters (before .id) address opaque (before .registers)
+
+  six-before : length (before .registers) ≡ registerCount
+  unfolding hartAt
+  six-before = refl
+
+  started-sound : sound (withHome (put hartWords (t .home) h (toWords (afterStart address opaque before .hart))) t) ≡ true
+  started-sound =
+      let kept = transition-keeps start hartAlreadyRunning before registers in
+      home-written-sound t f h lh (afterStart address opaque before .hart)
+      (transition-length start hartAlreadyRunning before registers
+      (start-started (before .registers) six-before (before .id) address opaque .as-many)
+      ∙ six-before)
+      (transition-formed start hartAlreadyRunning before (told 0 (before .lifecycle)) registers
+      (row-formed theVm (t .home) (t .hardware) (hardwareHarts t) h (f .home-row h lh)))
+      (record { vm-same = kept .vm-kept; id-same = kept .id-kept })
+
+-- ---- the requests
+
+-- the tables are sound afterwards
+abbrev Keeps : Outcome → Type 0
+Keeps o = sound (o .after) ≡ true
+
+pub steal-sound : (hart : ConfidentialHartId) (on : HardwareHartId) (t : Tables) → sound t ≡ true
+    → sound (performed (Steal hart on) t .after) ≡ true
+unfolding performed tests effect
+steal-sound hart on t s =
+    by-pick Keeps _ _ _ (λ _. s)
+    (λ _. by-pick Keeps _ _ _ (λ _. s)
+    (λ lk. by-pick Keeps _ _ _ (λ _. s)
+    (λ idle. by-pick Keeps _ _ _ (λ _. s)
+    (λ lh. by-pick Keeps _ _ _ (λ _. s)
+    (λ real. by-pick Keeps _ _ _ (λ _. s)
+    (λ _.
+    left-sound t (sound-facts t s) (hart .0) (on .0) (leb-false _ _ lh) (leb-false _ _ lk) (eqb-false _ _ real)
+    (eqb-true _ _ (not-false _ idle))))))))
+
+pub return-sound : (on : HardwareHartId) (t : Tables) → sound t ≡ true → sound (performed (Return on) t .after) ≡ true
+unfolding performed tests effect
+return-sound on t s =
+    by-pick Keeps _ _ _ (λ _. s)
+    (λ _. by-pick Keeps _ _ _ (λ _. s)
+    (λ lk. by-pick Keeps _ _ _ (λ _. s)
+    (λ busy.
+    let f = sound-facts t s in
+    let k = on .0 in
+    let l : k < hardwareHarts t = leb-false _ _ lk in
+    let real : hardwareHart t k .vm ≢ noVm = eqb-false _ _ busy in
+    let n = row-names noVm (t .hardware) (t .home) (harts t) k (f .hardware-row k l) real in
+    back-sound t f (hardwareHart t k .id) k (n .there) l real refl (n .held) (n .back))))
+
+pub start-sound : (hart : ConfidentialHartId) (address opaque : ℕ) (t : Tables) → sound t ≡ true
+    → sound (performed (Start hart address opaque) t .after) ≡ true
+unfolding performed tests effect
+start-sound hart address opaque t s =
+    by-pick Keeps _ _ _ (λ _. s)
+    (λ _. by-pick Keeps _ _ _ (λ _. s)
+    (λ lh. by-pick Keeps _ _ _ (λ _. s)
+    (λ _. by-pick Keeps _ _ _ (λ _. s)
+    (λ _. started-sound t (sound-facts t s) (hart .0) (leb-false _ _ lh) address opaque))))
+
+-- ---- home row h holds dummy k exactly when hardware row k holds real hart h
+
+both-ways : (a b : Bool) → (a ≡ true → b ≡ true) → (b ≡ true → a ≡ true) → a ≡ b
+both-ways true b f g = sym (f refl)
+both-ways false true f g = g refl
+both-ways false false f g = refl
+
+pub exactly-when : (t : Tables) → sound t ≡ true → (h k : ℕ) → h < harts t → k < hardwareHarts t
+    → isDummy (homeHart t h) && eqb (homeHart t h .id) k ≡ not (isDummy (hardwareHart t k)) && eqb (hardwareHart t k .id) h
+exactly-when t s h k lh lk =
+    let f = sound-facts t s in
+    let dummy : Bool = isDummy (homeHart t h) in
+    let named : Bool = eqb (homeHart t h .id) k in
+    let real : Bool = not (isDummy (hardwareHart t k)) in
+    let holds : Bool = eqb (hardwareHart t k .id) h in
+    both-ways (dummy && named) (real && holds)
+    (λ e.
+    let d : homeHart t h .vm ≡ noVm = eqb-true _ _ (and-left dummy named e) in
+    let i : homeHart t h .id ≡ k = eqb-true _ _ (and-right dummy named e) in
+    let n = row-names theVm (t .home) (t .hardware) (hardwareHarts t) h (f .home-row h lh) (λ q. absurd (omega arith)) in
+    let v : hardwareHart t k .vm ≡ theVm = rw i at (n .held) in
+    let j : hardwareHart t k .id ≡ h = rw i at (n .back) in
+    let r : hardwareHart t k .vm ≢ noVm = λ q. absurd (omega arith) in
+    and-both (not-yes _ (ne-eqb _ _ r)) (eq-eqb _ _ j))
+    (λ e.
+    let r : hardwareHart t k .vm ≢ noVm = eqb-false _ _ (not-true _ (and-left real holds e)) in
+    let i : hardwareHart t k .id ≡ h = eqb-true _ _ (and-right real holds e) in
+    let n = row-names noVm (t .hardware) (t .home) (harts t) k (f .hardware-row k lk) r in
+    let v : homeHart t h .vm ≡ noVm = rw i at (n .held) in
+    let j : homeHart t h .id ≡ k = rw i at (n .back) in
+    and-both (eq-eqb _ _ v) (eq-eqb _ _ j))

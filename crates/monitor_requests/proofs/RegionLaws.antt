@@ -1,0 +1,111 @@
+-- Adding and removing regions and allowing interrupts keep tables sound. Assumes nothing.
+use Prim.Native.Nat.{ℕ, _+_, _≤_, _<_}
+use mathlib.Core.Path.{_≡_, ap, _∙_}
+use mathlib.Core.Bool.{true}
+use mathlib.Core.List.{List, [], _∷_, _++_}
+use native.Mathlib.Omega.{arith}
+use lib.Bits.{bitOr}
+use lib.ListN.{length, getD, set, length-set, length-append}
+use lib.Seq.{getD-set-same, getD-set-other}
+use borrow.Author.Tests.{le-leb, leb-false}
+use Rattle.table_rows.specs.Lists.{allOf}
+use Rattle.table_rows.proofs.PickLaws.{by-pick, and-both}
+use Rattle.table_rows.proofs.ListLaws.{all-last}
+use Rattle.confidential_hart.specs.Hart.{noVm, theVm}
+use Rattle.confidential_vm_mmio_region.specs.declared.ConfidentialVmMmioRegion.{ConfidentialVmMmioRegion}
+use Rattle.confidential_vm_mmio_region.specs.Region.{ordered}
+use Rattle.mmio_regions.specs.Regions.{maxRegions, withRemoved}
+use Rattle.mmio_regions.specs.Table.{regionsSound, laid}
+use Rattle.mmio_regions.proofs.RegionLaws.{removed-few, removed-ordered}
+use Rattle.mmio_regions.proofs.TableLaws.{standing-length}
+use Rattle.mmio_regions.proofs.SoundLaws as regions
+use Rattle.monitor_requests.specs.declared.Request.the-variants.{Allow, Add, Remove}
+use Rattle.monitor_requests.specs.Tables.{Tables, tables, hartsWord, hardwareWord, allowedWord, regionsWord, harts, hardwareHarts, allowed, regionCount, regionsOf, rowSound, sound}
+use Rattle.monitor_requests.specs.Requests.{Outcome, regionFrom, withRegions, tests, effect, performed}
+use Rattle.monitor_requests.proofs.SoundLaws.{Sound, sound-facts, facts-sound}
+
+-- ---- another head, with the counts as they were, and other regions
+
+module _ (t : Tables) (f : Sound t) (head places : List ℕ) (same-length : length head ≡ length (t .head)) where
+  pub head-sound : getD head hartsWord 0 ≡ harts t → getD head hardwareWord 0 ≡ hardwareHarts t
+      → regionsSound places (getD head regionsWord 0) ≡ true
+      → sound (tables head (t .home) (t .hardware) (t .queues) places) ≡ true
+  head-sound n m r =
+      let z = f .sized in
+      let table = regions.sound-parts places (getD head regionsWord 0) r .sized in
+      facts-sound (tables head (t .home) (t .hardware) (t .queues) places) (record {
+        sized = record {
+          some-harts = rw n (z .some-harts);
+          few-harts = rw n (z .few-harts);
+          some-hardware = rw m (z .some-hardware);
+          few-hardware = rw m (z .few-hardware);
+          few-regions = table .few;
+          head-long = rw same-length (z .head-long);
+          home-long = rw n (z .home-long);
+          hardware-long = rw m (z .hardware-long);
+          queues-long = rw n (z .queues-long);
+          regions-long = table .room;
+        };
+        home-row = λ h l. ap (λ (k : ℕ). rowSound theVm (t .home) (t .hardware) k h) m ∙ f .home-row h (rw n at l);
+        hardware-row = λ k l. ap (λ (h : ℕ). rowSound noVm (t .hardware) (t .home) h k) n ∙ f .hardware-row k (rw m at l);
+        queue-formed = λ h l. f .queue-formed h (rw n at l);
+        regions-sound = r;
+      })
+
+-- ---- regions laid into sound tables
+
+module _ (t : Tables) (s : sound t ≡ true) where
+  abbrev facts : Sound t
+  facts = sound-facts t s
+
+  pub laid-tables-sound : (rs : List ConfidentialVmMmioRegion) → length rs ≤ maxRegions → allOf ordered rs ≡ true → sound (withRegions rs t) ≡ true
+  laid-tables-sound rs few o =
+      let head : List ℕ = set (t .head) regionsWord (length rs) in
+      let last : regionsWord < length (t .head) = omega (arith, facts .sized .head-long) in
+      let count : getD head regionsWord 0 ≡ length rs = getD-set-same (t .head) regionsWord (length rs) 0 last in
+      head-sound t facts head (laid (t .regions) (regionCount t) rs) (length-set (t .head) regionsWord (length rs))
+      (getD-set-other (t .head) regionsWord hartsWord (length rs) 0 (λ e. omega arith))
+      (getD-set-other (t .head) regionsWord hardwareWord (length rs) 0 (λ e. omega arith))
+      (ap (regionsSound (laid (t .regions) (regionCount t) rs)) count
+      ∙ regions.laid-sound (t .regions) (regionCount t) (facts .regions-sound) rs few o)
+
+  upright : allOf ordered (regionsOf t) ≡ true
+  upright = regions.sound-parts (t .regions) (regionCount t) (facts .regions-sound) .upright
+
+-- ---- the requests
+
+abbrev Keeps : Outcome → Type 0
+Keeps o = sound (o .after) ≡ true
+
+pub add-sound : (base size : ℕ) (t : Tables) → sound t ≡ true → sound (performed (Add base size) t .after) ≡ true
+unfolding performed tests effect
+add-sound base size t s =
+    by-pick Keeps _ _ _ (λ _. s)
+    (λ _. by-pick Keeps _ _ _ (λ _. s)
+    (λ _. by-pick Keeps _ _ _ (λ _. s)
+    (λ room. by-pick Keeps _ _ _ (λ _. s)
+    (λ _.
+    let l : length (regionsOf t) < maxRegions = leb-false _ _ room in
+    laid-tables-sound t s (regionsOf t ++ (regionFrom base size ∷ [])) (simp length-append (omega arith))
+    (all-last ordered (regionFrom base size) (regionsOf t) ∙ and-both (upright t s) (le-leb base (base + size) (omega arith)))))))
+
+pub remove-sound : (base size : ℕ) (t : Tables) → sound t ≡ true → sound (performed (Remove base size) t .after) ≡ true
+unfolding performed tests effect
+remove-sound base size t s =
+    by-pick Keeps _ _ _ (λ _. s)
+    (λ _. by-pick Keeps _ _ _ (λ _. s)
+    (λ _.
+    laid-tables-sound t s (withRemoved (regionFrom base size) (regionsOf t))
+    (omega (arith, removed-few (regionFrom base size) (regionsOf t), standing-length (t .regions) (regionCount t), facts t s .sized .few-regions))
+    (removed-ordered (regionFrom base size) (regionsOf t) (upright t s))))
+
+pub allow-sound : (bits : ℕ) (t : Tables) → sound t ≡ true → sound (performed (Allow bits) t .after) ≡ true
+unfolding performed tests effect
+allow-sound bits t s =
+    by-pick Keeps _ _ _ (λ _. s)
+    (λ _.
+    let mask : ℕ = bitOr (allowed t) bits in
+    head-sound t (facts t s) (set (t .head) allowedWord mask) (t .regions) (length-set (t .head) allowedWord mask)
+    (getD-set-other (t .head) allowedWord hartsWord mask 0 (λ e. omega arith))
+    (getD-set-other (t .head) allowedWord hardwareWord mask 0 (λ e. omega arith))
+    (ap (regionsSound (t .regions)) (getD-set-other (t .head) allowedWord regionsWord mask 0 (λ e. omega arith)) ∙ facts t s .regions-sound))
