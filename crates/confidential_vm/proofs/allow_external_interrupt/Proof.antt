@@ -19,4 +19,4 @@ allow-requires c κs = let s = sym (c .before .before .are-tables-sound .ensures
 pub allow-external-interrupt-spec : {M : Type 1} → statement M
 allow-external-interrupt-spec =
     tie.close
-    (tie.spec (λ c κs. search needs) (λ c. search needs) returns allow-requires (λ c. search needs) (λ c. search needs))
+    (tie.spec (λ c κs. search needs) (λ c. search needs) returns allow-requires (λ c. search needs) (λ c. c .before .before .allow .ensures))

@@ -27,4 +27,4 @@ return-confidential-hart-spec =
     give-back-requires
     (λ c. search needs)
     (λ c. search needs)
-    (λ c. search needs))
+    (λ c. c .before .before .before .before .give-back .ensures))

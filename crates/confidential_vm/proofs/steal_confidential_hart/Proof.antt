@@ -27,4 +27,4 @@ steal-confidential-hart-spec =
     steal-requires
     (λ c. search needs)
     (λ c. search needs)
-    (λ c. search needs))
+    (λ c. c .before .before .before .before .steal .ensures))

@@ -18,4 +18,4 @@ state-requires c κs = let s = sym (c .before .are-tables-sound .ensures) ∙ no
 
 pub confidential-hart-lifecycle-state-spec : {M : Type 1} → statement M
 confidential-hart-lifecycle-state-spec =
-    tie.close (tie.spec (λ c κs. search needs) returns state-requires (λ c. search needs))
+    tie.close (tie.spec (λ c κs. search needs) returns state-requires (λ c. c .state .ensures))

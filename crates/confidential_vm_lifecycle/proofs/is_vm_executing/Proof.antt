@@ -18,4 +18,4 @@ all-home-requires c κs = let s = sym (c .before .are-tables-sound .ensures) ∙
 
 pub is-vm-executing-spec : {M : Type 1} → statement M
 is-vm-executing-spec =
-    tie.close (tie.spec (λ c κs. search needs) returns all-home-requires (λ c. search needs))
+    tie.close (tie.spec (λ c κs. search needs) returns all-home-requires (λ c. c .all-home .ensures))

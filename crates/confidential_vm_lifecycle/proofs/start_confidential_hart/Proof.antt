@@ -19,4 +19,4 @@ start-requires c κs = let s = sym (c .before .before .are-tables-sound .ensures
 pub start-confidential-hart-spec : {M : Type 1} → statement M
 start-confidential-hart-spec =
     tie.close
-    (tie.spec (λ c κs. search needs) (λ c. search needs) returns start-requires (λ c. search needs) (λ c. search needs))
+    (tie.spec (λ c κs. search needs) (λ c. search needs) returns start-requires (λ c. search needs) (λ c. c .before .before .start .ensures))
