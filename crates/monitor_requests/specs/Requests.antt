@@ -88,6 +88,7 @@ pub record Test : Type 0 where
   pub error : Error
   pub when : Bool
 
+-- the error when the test holds
 abbrev pub refuse : Error → Bool → Test
 refuse error when = record { error = error; when = when }
 
@@ -131,8 +132,9 @@ refuses (refused number) = true
 abbrev pub regionFrom : ℕ → ℕ → ConfidentialVmMmioRegion
 regionFrom base size = regionOf base (base + size)
 
--- ---- the tests of each request, in order. Setup never gives 12, and every other request gives it first
+-- ---- tests
 
+-- the tests of each request, in order. Setup never gives 12, and every other request gives it first
 unfoldable pub tests : Request → Tables → List Test
 tests (Setup s) t =
     refuse SetupOutOfRange (not (countsInRange (s .harts) (s .hardware) && ltb (s .boot) (s .harts)))
@@ -172,13 +174,15 @@ tests (Defined base size) t = unsound t ∷ tooLarge base size ∷ []
 
 -- ---- parts of effects
 
--- the tables with other words in the place of one of them
+-- the tables with another head
 abbrev pub withHead : List ℕ → Tables → Tables
 withHead head t = tables head (t .home) (t .hardware) (t .queues) (t .regions)
 
+-- the tables with other home rows
 abbrev pub withHome : List ℕ → Tables → Tables
 withHome home t = tables (t .head) home (t .hardware) (t .queues) (t .regions)
 
+-- the tables with other queues
 abbrev pub withQueues : List ℕ → Tables → Tables
 withQueues queues t = tables (t .head) (t .home) (t .hardware) queues (t .regions)
 
@@ -245,8 +249,9 @@ deliver home sender c (suc left) h mask queues =
 abbrev pub broadcast : ℕ → ConfidentialHartRemoteCommand → Tables → Delivery
 broadcast sender c t = deliver (t .home) sender c (harts t) 0 0 (t .queues)
 
--- ---- the effect of each request, once its tests are passed: its answer, and the tables afterwards
+-- ---- effects
 
+-- the effect of each request, once its tests are passed: its answer, and the tables afterwards
 unfoldable pub effect : Request → Tables → Outcome
 effect (Setup s) t = outcome Done (fresh s t)
 effect (Steal hart on) t = outcome (Mask (allowed t)) (exchanged (hart .0) (on .0) t)
@@ -261,7 +266,8 @@ effect (Add base size) t = outcome Done (withRegions (regionsOf t ++ (regionFrom
 effect (Remove base size) t = outcome Done (withRegions (withRemoved (regionFrom base size) (regionsOf t)) t)
 effect (Defined base size) t = outcome (Flag (anyContains (regionFrom base size) (regionsOf t))) t
 
--- ---- a request as a whole: its answer, and the tables afterwards, whatever the tables were
+-- ---- the whole
 
+-- a request on any tables: its answer, and the tables afterwards
 unfoldable pub performed : Request → Tables → Outcome
 performed r t = judged (tests r t) t (effect r t)

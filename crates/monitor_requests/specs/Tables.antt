@@ -26,19 +26,23 @@ pub record Tables : Type 0 where
 abbrev pub tables : List ℕ → List ℕ → List ℕ → List ℕ → List ℕ → Tables
 tables head home hardware queues regions = record { head = head; home = home; hardware = hardware; queues = queues; regions = regions }
 
--- the words of the head
+-- the word of the head that says how many harts there are
 abbrev pub hartsWord : ℕ
 hartsWord = 0
 
+-- that of the hardware harts
 abbrev pub hardwareWord : ℕ
 hardwareWord = 1
 
+-- that of the allowed mask
 abbrev pub allowedWord : ℕ
 allowedWord = 2
 
+-- that of the regions
 abbrev pub regionsWord : ℕ
 regionsWord = 3
 
+-- how many words the head has
 abbrev pub headWords : ℕ
 headWords = 4
 
@@ -76,10 +80,11 @@ regionsOf t = standing (t .regions) (regionCount t)
 
 -- ---- soundness
 
--- how many harts and hardware harts there may be
+-- how many harts there may be
 abbrev pub maxHarts : ℕ
 maxHarts = 1024
 
+-- how many hardware harts there may be
 abbrev pub maxHardwareHarts : ℕ
 maxHardwareHarts = 64
 
