@@ -5,4 +5,6 @@ pub mod MoveLaws
 pub mod SetupLaws
 pub mod RegionLaws
 pub mod BroadcastLaws
+pub mod RequestLaws
+pub mod WriteLaws
 pub mod Examples

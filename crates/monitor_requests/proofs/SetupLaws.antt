@@ -10,7 +10,6 @@ use lib.Seq.{take-at}
 use lib.Dec.{ltb}
 use borrow.Author.Tests.{ltb-true, not-false}
 use Rattle.error.specs.declared.Error.{Error}
-use Rattle.error.specs.declared.Error.the-variants.{RoomTooShort, SetupOutOfRange}
 use Rattle.table_rows.specs.Rows.{row, rowsOf}
 use Rattle.table_rows.specs.Lists.{upTo, allOf}
 use Rattle.table_rows.proofs.PickLaws.{yes, no, by-pick, by-test, and-left, and-right}
@@ -80,10 +79,10 @@ module _ (s : declared.Setup) (t : Tables) where
   unfolding performed tests effect
   accepted e =
       by-test (not (range && below))
-      (λ r. absurd (not-done SetupOutOfRange (ap (λ (o : Outcome). o .answer) (yes _ r refl) ∙ e)))
+      (λ r. absurd (not-done _ (ap (λ (o : Outcome). o .answer) (yes _ r refl) ∙ e)))
       (λ in-range.
       by-test (not roomy)
-      (λ r. absurd (not-done RoomTooShort (ap (λ (o : Outcome). o .answer) (no _ in-range (yes _ r refl)) ∙ e)))
+      (λ r. absurd (not-done _ (ap (λ (o : Outcome). o .answer) (no _ in-range (yes _ r refl)) ∙ e)))
       (λ long.
       let both : range && below ≡ true = not-false _ in-range in
       record {

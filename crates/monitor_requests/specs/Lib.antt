@@ -2,3 +2,4 @@
 pub mod Tables
 pub mod Answers
 pub mod Requests
+pub mod Writes
