@@ -7,4 +7,4 @@ use Rattle.monitor_requests.proofs.BroadcastLaws.{dummy-number}
 use Rattle.confidential_vm_remote_commands.specs.Homes.{Homes}
 
 pub sound-homes : (t : Tables) → sound t ≡ true → Homes (harts t) (t .home)
-sound-homes t s = record { long = sound-sized t s .home-long; numbered = dummy-number t s }
+sound-homes t s = record { long = sound-sized t s .long .home-long; numbered = dummy-number t s }

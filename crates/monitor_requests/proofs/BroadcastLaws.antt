@@ -439,7 +439,7 @@ module _ (sender : ℕ) (c : ConfidentialHartRemoteCommand) (t : Tables) where
 
   module _ (s : sound t ≡ true) where
     room-for : (0 + harts t) * queueWords ≤ length (t .queues)
-    room-for = omega (arith, sound-facts t s .sized .queues-long)
+    room-for = omega (arith, sound-facts t s .sized .long .queues-long)
 
     turns : Rows (t .home) sender c (harts t) 0 (t .queues) (broadcast sender c t .queues)
     turns = rows (t .home) sender c (harts t) 0 0 (t .queues) room-for
@@ -564,11 +564,13 @@ module _ (sender : ℕ) (c : ConfidentialHartRemoteCommand) (t : Tables) where
             some-hardware = f .sized .some-hardware;
             few-hardware = f .sized .few-hardware;
             few-regions = f .sized .few-regions;
-            head-long = f .sized .head-long;
-            home-long = f .sized .home-long;
-            hardware-long = f .sized .hardware-long;
-            queues-long = rw broadcast-length (f .sized .queues-long);
-            regions-long = f .sized .regions-long;
+            long = record {
+              head-long = f .sized .long .head-long;
+              home-long = f .sized .long .home-long;
+              hardware-long = f .sized .long .hardware-long;
+              queues-long = rw broadcast-length (f .sized .long .queues-long);
+              regions-long = f .sized .long .regions-long;
+            };
           };
           home-row = f .home-row;
           hardware-row = f .hardware-row;

@@ -117,7 +117,7 @@ module _ (t : Tables) (p : P9 t) where
       (delivered-row 0 p9-command t (p .tables-sound) 1 (omega (arith, p9-refuser)) p9-one
       ∙ ap (λ (o : Offer). o .queue) (offer-new (queue t 1) p9-command (p .room-1) (p .new-1)))
       ∙ push-commands (queue t 1) p9-command
-      (row-length queueWords (t .queues) 1 (omega (arith, p .four, sound-sized t (p .tables-sound) .queues-long)))
+      (row-length queueWords (t .queues) 1 (omega (arith, p .four, sound-sized t (p .tables-sound) .long .queues-long)))
       (p .room-1)
 
   pub p9-second : row queueWords (broadcast 0 p9-command t .queues) 2 ≡ queue t 2

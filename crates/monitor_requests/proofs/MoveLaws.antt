@@ -139,10 +139,10 @@ module _ (own : ℕ) (a b a′ b′ : List ℕ) (n m h k : ℕ) (x : Exchange a 
 module _ (t : Tables) (z : Sized t) (i : ℕ) where
   -- a row lies within its table
   pub home-fits : i < harts t → i * hartWords + hartWords ≤ length (t .home)
-  home-fits l = omega (arith, within hartWords i (harts t) l, z .home-long)
+  home-fits l = omega (arith, within hartWords i (harts t) l, z .long .home-long)
 
   pub hardware-fits : i < hardwareHarts t → i * hartWords + hartWords ≤ length (t .hardware)
-  hardware-fits l = omega (arith, within hartWords i (hardwareHarts t) l, z .hardware-long)
+  hardware-fits l = omega (arith, within hartWords i (hardwareHarts t) l, z .long .hardware-long)
 
 -- sound tables with other rows, as many words of them, are sound where each row is
 pub rows-sound : (t : Tables) → Sound t → (home hardware : List ℕ) → length home ≡ length (t .home) → length hardware ≡ length (t .hardware)
@@ -159,11 +159,13 @@ rows-sound t f home hardware e d at-home on-hardware =
         some-hardware = z .some-hardware;
         few-hardware = z .few-hardware;
         few-regions = z .few-regions;
-        head-long = z .head-long;
-        home-long = rw e (z .home-long);
-        hardware-long = rw d (z .hardware-long);
-        queues-long = z .queues-long;
-        regions-long = z .regions-long;
+        long = record {
+          head-long = z .long .head-long;
+          home-long = rw e (z .long .home-long);
+          hardware-long = rw d (z .long .hardware-long);
+          queues-long = z .long .queues-long;
+          regions-long = z .long .regions-long;
+        };
       };
       home-row = at-home;
       hardware-row = on-hardware;

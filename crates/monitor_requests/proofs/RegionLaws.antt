@@ -40,11 +40,13 @@ module _ (t : Tables) (f : Sound t) (head places : List ℕ) (same-length : leng
           some-hardware = rw m (z .some-hardware);
           few-hardware = rw m (z .few-hardware);
           few-regions = table .few;
-          head-long = rw same-length (z .head-long);
-          home-long = rw n (z .home-long);
-          hardware-long = rw m (z .hardware-long);
-          queues-long = rw n (z .queues-long);
-          regions-long = table .room;
+          long = record {
+            head-long = rw same-length (z .long .head-long);
+            home-long = rw n (z .long .home-long);
+            hardware-long = rw m (z .long .hardware-long);
+            queues-long = rw n (z .long .queues-long);
+            regions-long = table .room;
+          };
         };
         home-row = λ h l. ap (λ (k : ℕ). rowSound theVm (t .home) (t .hardware) k h) m ∙ f .home-row h (rw n at l);
         hardware-row = λ k l. ap (λ (h : ℕ). rowSound noVm (t .hardware) (t .home) h k) n ∙ f .hardware-row k (rw m at l);
@@ -61,7 +63,7 @@ module _ (t : Tables) (s : sound t ≡ true) where
   pub laid-tables-sound : (rs : List ConfidentialVmMmioRegion) → length rs ≤ maxRegions → allOf ordered rs ≡ true → sound (withRegions rs t) ≡ true
   laid-tables-sound rs few o =
       let head : List ℕ = set (t .head) regionsWord (length rs) in
-      let last : regionsWord < length (t .head) = omega (arith, facts .sized .head-long) in
+      let last : regionsWord < length (t .head) = omega (arith, facts .sized .long .head-long) in
       let count : getD head regionsWord 0 ≡ length rs = getD-set-same (t .head) regionsWord (length rs) 0 last in
       head-sound t facts head (laid (t .regions) (regionCount t) rs) (length-set (t .head) regionsWord (length rs))
       (getD-set-other (t .head) regionsWord hartsWord (length rs) 0 (λ e. omega arith))

@@ -376,7 +376,7 @@ module _ (t : Tables) (s : sound t ≡ true) where
         hardware-same = refl;
         queues-same = refl;
         regions-same = laid-length (t .regions) (regionCount t) rs
-            (omega (arith, z .few-regions, z .regions-long)) (omega (arith, z .regions-long));
+            (omega (arith, z .few-regions, z .long .regions-long)) (omega (arith, z .long .regions-long));
       }
 
   -- every request keeps those of sound tables

@@ -210,11 +210,13 @@ module _ (s : declared.Setup) (t : Tables) (a : Accepted s t) where
           some-hardware = range-some-hardware n m (a .ranged);
           few-hardware = range-few-hardware n m (a .ranged);
           few-regions = omega arith;
-          head-long = rw (head-length s t l) (l .head-long);
-          home-long = rw (home-length s t l) (l .home-long);
-          hardware-long = rw (hardware-length s t l) (l .hardware-long);
-          queues-long = rw (queues-length s t l) (l .queues-long);
-          regions-long = rw (regions-length s t l) (l .regions-long);
+          long = record {
+            head-long = rw (head-length s t l) (l .head-long);
+            home-long = rw (home-length s t l) (l .home-long);
+            hardware-long = rw (hardware-length s t l) (l .hardware-long);
+            queues-long = rw (queues-length s t l) (l .queues-long);
+            regions-long = rw (regions-length s t l) (l .regions-long);
+          };
         };
         home-row = λ h b.
             sound-own theVm (after .home) (after .hardware) m h

@@ -211,11 +211,7 @@ module _ (t : Tables) where
           some-hardware = range-some-hardware (harts t) (hardwareHarts t) r;
           few-hardware = range-few-hardware (harts t) (hardwareHarts t) r;
           few-regions = regions.sound-sized (t .regions) (regionCount t) z .few;
-          head-long = l .head-long;
-          home-long = l .home-long;
-          hardware-long = l .hardware-long;
-          queues-long = l .queues-long;
-          regions-long = l .regions-long;
+          long = l;
         };
         home-row = λ h b. every-at (homeRowSound t) h (harts t) (and-right (ranges && long) at-home three) b;
         hardware-row = λ k b. every-at (hardwareRowSound t) k (hardwareHarts t) (and-right (ranges && long && at-home) on-hardware four) b;
@@ -238,13 +234,7 @@ module _ (t : Tables) where
       (and-both {a = ranges && long}
       (and-both {a = ranges}
       (in-range (harts t) (hardwareHarts t) (z .some-harts) (z .few-harts) (z .some-hardware) (z .few-hardware))
-      (facts-long t (harts t) (hardwareHarts t) (record {
-        head-long = z .head-long;
-        home-long = z .home-long;
-        hardware-long = z .hardware-long;
-        queues-long = z .queues-long;
-        regions-long = z .regions-long;
-      })))
+      (facts-long t (harts t) (hardwareHarts t) (z .long)))
       (every-of (homeRowSound t) (harts t) (f .home-row)))
       (every-of (hardwareRowSound t) (hardwareHarts t) (f .hardware-row)))
       (every-of (λ h. queueWellFormed (queue t h)) (harts t) (f .queue-formed)))

@@ -145,8 +145,4 @@ pub record Sized (t : Tables) : Type 0 where
   pub some-hardware : 1 ≤ hardwareHarts t
   pub few-hardware : hardwareHarts t ≤ maxHardwareHarts
   pub few-regions : regionCount t ≤ maxRegions
-  pub head-long : headWords ≤ length (t .head)
-  pub home-long : harts t * hartWords ≤ length (t .home)
-  pub hardware-long : hardwareHarts t * hartWords ≤ length (t .hardware)
-  pub queues-long : harts t * queueWords ≤ length (t .queues)
-  pub regions-long : maxRegions * regionWords ≤ length (t .regions)
+  pub long : Long t (harts t) (hardwareHarts t)

@@ -19,7 +19,7 @@ unfolding performed tests effect
 returns-2 c = no _ (not-no _ (c .before .before .before .before .before .before .before .before .before .before .before .pre .1)) (no _ (lt-leb _ _ (c .before .before .before .if1 .left)) (yes _ (sym (c .before .is-dummy .ensures) ∙ c .if2 .taken) refl))
 
 exchange-requires : tie.Need-exchange-requires
-exchange-requires c κs = let below = held-names _ (c .before .before .before .before .before .before .before .before .before .before .before .before .before .before .before .pre .1) _ (c .before .before .before .before .before .before .before .if1 .left) (sym (c .before .before .before .before .before .is-dummy .ensures) ∙ c .before .before .before .before .if2 .left) .there in (omega (arith, below, c .before .before .id .ensures, c .before .before .before .before .before .before .before .before .before .before .before .before .before .before .before .pre .0 .home-long), search needs)
+exchange-requires c κs = let below = held-names _ (c .before .before .before .before .before .before .before .before .before .before .before .before .before .before .before .pre .1) _ (c .before .before .before .before .before .before .before .if1 .left) (sym (c .before .before .before .before .before .is-dummy .ensures) ∙ c .before .before .before .before .if2 .left) .there in (omega (arith, below, c .before .before .id .ensures, c .before .before .before .before .before .before .before .before .before .before .before .before .before .before .before .pre .0 .long .home-long), search needs)
 
 returns-3 : tie.Need-returns-3
 unfolding performed tests effect

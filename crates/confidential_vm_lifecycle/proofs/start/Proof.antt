@@ -33,7 +33,7 @@ unfolding performed tests effect
 returns-3 c = let pre = c .before .before .before .before .before .before .before .before .before .before .before .before .before .before .before .before .pre .1 in let real = sym (c .before .before .before .before .before .before .is-dummy .ensures) ∙ c .before .before .before .before .before .if2 .left in no _ (not-no _ pre) (no _ (lt-leb _ _ (c .before .before .before .before .before .before .before .before .if1 .left)) (no _ real (yes _ (change-refuses 0 _ _ _ (home-formed _ pre _ (c .before .before .before .before .before .before .before .before .if1 .left)) real ∙ not-yes _ (ap undone (sym (c .before .before .transition-from-stopped-to-started .ensures ∙ ap (afterStart _ _) (c .before .before .before .load .ensures))) ∙ ne-eqb _ _ (c .if3 .taken))) refl)))
 
 store-requires : tie.Need-store-requires
-store-requires c κs = omega (arith, c .before .before .before .before .before .before .before .before .before .before .before .before .before .before .before .before .before .pre .0 .home-long, c .before .before .before .before .before .before .before .before .before .if1 .left)
+store-requires c κs = omega (arith, c .before .before .before .before .before .before .before .before .before .before .before .before .before .before .before .before .before .pre .0 .long .home-long, c .before .before .before .before .before .before .before .before .before .if1 .left)
 
 returns-4 : tie.Need-returns-4
 unfolding performed tests effect

@@ -16,7 +16,7 @@ returns c =
 deliver-requires : tie.Need-deliver-requires
 deliver-requires c κs =
     let p = c .before .before .before .before .before .before .before .before .before in
-    (sound-homes _ (p .pre .1), p .pre .0 .queues-long)
+    (sound-homes _ (p .pre .1), p .pre .0 .long .queues-long)
 
 returns-2 : tie.Need-returns-2
 returns-2 c =
