@@ -14,7 +14,9 @@ unfolding performed tests
 returns c = yes _ (ap not (sym (c .before .are-tables-sound .ensures)) ∙ c .if1 .taken) refl
 
 allow-requires : tie.Need-allow-requires
-allow-requires c κs = let s = sym (c .before .before .are-tables-sound .ensures) ∙ not-false _ (c .before .if1 .left) in (sound-sized _ s, s)
+allow-requires c κs =
+    let s = sym (c .before .before .are-tables-sound .ensures) ∙ not-false _ (c .before .if1 .left) in
+    (sound-sized _ s, s)
 
 pub allow-external-interrupt-spec : {M : Type 1} → statement M
 allow-external-interrupt-spec =

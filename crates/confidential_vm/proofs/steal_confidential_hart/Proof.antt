@@ -14,7 +14,9 @@ unfolding performed tests
 returns c = yes _ (ap not (sym (c .before .are-tables-sound .ensures)) ∙ c .if1 .taken) refl
 
 steal-requires : tie.Need-steal-requires
-steal-requires c κs = let s = sym (c .before .before .before .are-tables-sound .ensures) ∙ not-false _ (c .before .before .if1 .left) in (sound-sized _ s, s)
+steal-requires c κs =
+    let s = sym (c .before .before .before .are-tables-sound .ensures) ∙ not-false _ (c .before .before .if1 .left) in
+    (sound-sized _ s, s)
 
 pub steal-confidential-hart-spec : {M : Type 1} → statement M
 steal-confidential-hart-spec =

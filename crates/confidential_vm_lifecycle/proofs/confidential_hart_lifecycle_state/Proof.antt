@@ -14,7 +14,9 @@ unfolding performed tests
 returns c = yes _ (ap not (sym (c .before .are-tables-sound .ensures)) ∙ c .if1 .taken) refl
 
 state-requires : tie.Need-state-requires
-state-requires c κs = let s = sym (c .before .are-tables-sound .ensures) ∙ not-false _ (c .if1 .left) in (sound-sized _ s, s)
+state-requires c κs =
+    let s = sym (c .before .are-tables-sound .ensures) ∙ not-false _ (c .if1 .left) in
+    (sound-sized _ s, s)
 
 pub confidential-hart-lifecycle-state-spec : {M : Type 1} → statement M
 confidential-hart-lifecycle-state-spec =

@@ -14,7 +14,9 @@ unfolding performed tests
 returns c = yes _ (ap not (sym (c .before .are-tables-sound .ensures)) ∙ c .if1 .taken) refl
 
 all-home-requires : tie.Need-all-home-requires
-all-home-requires c κs = let s = sym (c .before .are-tables-sound .ensures) ∙ not-false _ (c .if1 .left) in (sound-sized _ s, s)
+all-home-requires c κs =
+    let s = sym (c .before .are-tables-sound .ensures) ∙ not-false _ (c .if1 .left) in
+    (sound-sized _ s, s)
 
 pub is-vm-executing-spec : {M : Type 1} → statement M
 is-vm-executing-spec =

@@ -14,7 +14,9 @@ unfolding performed tests
 returns c = yes _ (ap not (sym (c .before .are-tables-sound .ensures)) ∙ c .if1 .taken) refl
 
 start-requires : tie.Need-start-requires
-start-requires c κs = let s = sym (c .before .before .are-tables-sound .ensures) ∙ not-false _ (c .before .if1 .left) in (sound-sized _ s, s)
+start-requires c κs =
+    let s = sym (c .before .before .are-tables-sound .ensures) ∙ not-false _ (c .before .if1 .left) in
+    (sound-sized _ s, s)
 
 pub start-confidential-hart-spec : {M : Type 1} → statement M
 start-confidential-hart-spec =

@@ -1,10 +1,8 @@
 -- `confidential_vm_lifecycle::state` meets its contract: the test, and then the state. Assumes nothing.
-use mathlib.Core.Path.{refl, sym, ap, _∙_}
-use mathlib.Core.Bool.{not}
-use borrow.Author.Tests.{le-leb, lt-leb, not-false}
+use mathlib.Core.Path.{refl}
+use borrow.Author.Tests.{le-leb, lt-leb}
 use Rattle.table_rows.proofs.PickLaws.{yes, no, not-no}
 use Rattle.monitor_requests.specs.Requests.{performed, tests, effect}
-use Prim.Native.Nat.{ℕ}
 use Rattle.monitor_requests.specs.Requests.{outcome}
 use Rattle.monitor_requests.specs.declared.Answer.the-variants.{State}
 use borrow.Author.Needs.{needs}
