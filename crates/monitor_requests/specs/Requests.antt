@@ -56,23 +56,7 @@ use Rattle.monitor_requests.specs.declared.Request.the-variants.{
 }
 use Rattle.monitor_requests.specs.declared.Answer.{Answer}
 use Rattle.monitor_requests.specs.declared.Answer.the-variants.{Refused, Done, Mask, State, Flag}
-use Rattle.monitor_requests.specs.Tables.{
-  Tables,
-  tables,
-  headWords,
-  allowedWord,
-  regionsWord,
-  harts,
-  hardwareHarts,
-  allowed,
-  regionCount,
-  homeHart,
-  hardwareHart,
-  regionsOf,
-  countsInRange,
-  longEnough,
-  sound,
-}
+use Rattle.monitor_requests.specs.Tables.{Tables, tables, allowedWord, regionsWord, harts, hardwareHarts, allowed, regionCount, homeHart, hardwareHart, regionsOf, countsInRange, longEnough, sound}
 
 -- the answer, and the tables afterwards
 pub record Outcome : Type 0 where

@@ -1,8 +1,6 @@
 -- `confidential_vm::allow` meets its contract: one word is changed. Assumes nothing.
-use mathlib.Core.Path.{refl, sym, ap, _∙_}
-use mathlib.Core.Bool.{not}
-use borrow.Author.Tests.{le-leb, lt-leb, not-false}
-use Rattle.table_rows.proofs.PickLaws.{yes, no, not-no}
+use mathlib.Core.Path.{refl}
+use Rattle.table_rows.proofs.PickLaws.{no, not-no}
 use Rattle.monitor_requests.specs.Requests.{performed, tests, effect}
 use borrow.Author.Needs.{needs}
 use Rattle.confidential_vm.proofs.allow.Statement.{statement}

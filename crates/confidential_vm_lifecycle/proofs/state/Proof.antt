@@ -3,8 +3,6 @@ use mathlib.Core.Path.{refl}
 use borrow.Author.Tests.{le-leb, lt-leb}
 use Rattle.table_rows.proofs.PickLaws.{yes, no, not-no}
 use Rattle.monitor_requests.specs.Requests.{performed, tests, effect}
-use Rattle.monitor_requests.specs.Requests.{outcome}
-use Rattle.monitor_requests.specs.declared.Answer.the-variants.{State}
 use borrow.Author.Needs.{needs}
 use Rattle.confidential_vm_lifecycle.proofs.state.Statement.{statement}
 use Rattle.confidential_vm_lifecycle.proofs.state.Tie as tie
