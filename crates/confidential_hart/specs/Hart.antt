@@ -6,7 +6,7 @@ use lib.ListN.{replicate}
 use lib.Dec.{eqb, leb}
 use Rattle.table_rows.specs.Choice.{allZero}
 use Rattle.confidential_hart.specs.declared.ConfidentialHart.{ConfidentialHart}
-use Rattle.hart_lifecycle_state.specs.Lifecycle.{started, stopped, poweredOff}
+use Rattle.hart_lifecycle_state.specs.Lifecycle.{started, stopped, suspended, poweredOff}
 
 -- how many registers are saved
 abbrev pub registerCount : ℕ
@@ -34,6 +34,10 @@ hartOf vm id lifecycle operation x y registers =
 -- a dummy stands for a hardware hart, and belongs to no VM
 abbrev pub isDummy : ConfidentialHart → Bool
 isDummy h = eqb (h .vm) noVm
+
+-- a hart may run when it is Started or Suspended. A dummy is Started
+abbrev pub isExecutable : ConfidentialHart → Bool
+isExecutable h = eqb (h .lifecycle) started || eqb (h .lifecycle) suspended
 
 -- an absent operation has two zeros
 abbrev pub operationSound : ConfidentialHart → Bool

@@ -34,9 +34,9 @@ use Rattle.confidential_hart_remote_command.specs.declared.ConfidentialHartRemo
 use Rattle.confidential_hart_remote_command.specs.Command.{wellFormed}
 use Rattle.confidential_hart_remote_command.specs.Selection.{selects}
 use Rattle.remote_commands.specs.Queue.{maxCommands, queueWords, count, offered}
-use Rattle.hart_lifecycle_state.specs.Lifecycle.{Entry, becomes, refused, started, suspended, start}
+use Rattle.hart_lifecycle_state.specs.Lifecycle.{Entry, becomes, refused, start}
 use Rattle.confidential_hart.specs.declared.ConfidentialHart.{ConfidentialHart}
-use Rattle.confidential_hart.specs.Hart.{isDummy, dummy, resetHart, bootHart}
+use Rattle.confidential_hart.specs.Hart.{isDummy, isExecutable, dummy, resetHart, bootHart}
 use Rattle.confidential_hart.specs.Transition.{afterStart}
 use Rattle.hart_rows.specs.Rows.{hartWords, hartAt, toWords}
 use Rattle.monitor_requests.specs.declared.Setup as declared
@@ -102,10 +102,6 @@ away h t = refuse HartAlreadyRunning (isDummy (homeHart t h))
 -- 11: base + size is above 2^64 − 1
 abbrev pub tooLarge : ℕ → ℕ → Test
 tooLarge base size = refuse EndTooLarge (ltb maxEnd (base + size))
-
--- the lifecycle is Started or Suspended. A dummy is Started
-abbrev pub isExecutable : ConfidentialHart → Bool
-isExecutable h = eqb (h .lifecycle) started || eqb (h .lifecycle) suspended
 
 -- the lifecycle's table refuses
 unfoldable pub refuses : Entry → Bool

@@ -139,6 +139,6 @@ pub fn are_tables_sound(
     let at_home = are_rows_sound(VM, home, hardware, n as usize, m as usize);
     let on_hardware = are_rows_sound(NO_VM, hardware, home, m as usize, n as usize);
     let waiting = are_queues_sound(queues, n as usize);
-    let lent = mmio_regions::regions_are_sound(regions, head[REGIONS_WORD]);
-    at_home & on_hardware & waiting & lent
+    let standing = mmio_regions::regions_are_sound(regions, head[REGIONS_WORD]);
+    at_home & on_hardware & waiting & standing
 }
