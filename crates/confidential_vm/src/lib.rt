@@ -116,7 +116,7 @@ pub fn return_confidential_hart(
     give_back(on, head, home, hardware, queues, regions)
 }
 
-// The mask with the new bits.
+// Joins the bits to the mask of sound tables.
 fn allow(
     bits: u64,
     head: &mut [u64],

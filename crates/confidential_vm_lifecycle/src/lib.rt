@@ -119,8 +119,14 @@ fn are_all_home(home: &[u64], n: usize) -> bool
     true
 }
 
-// The answer of `is_vm_executing` on sound tables.
-fn all_home(head: &[u64], home: &[u64], hardware: &[u64], queues: &[u64], regions: &[u64]) -> Answer
+// Asks it of the n home rows of sound tables.
+fn executing(
+    head: &[u64],
+    home: &[u64],
+    hardware: &[u64],
+    queues: &[u64],
+    regions: &[u64],
+) -> Answer
     requires { ⌜ (Sized (tables (now head) (now home) (now hardware) (now queues) (now regions))) × (sound (tables (now head) (now home) (now hardware) (now queues) (now regions)) ≡ true) ⌝ }
     ensures { λ r. ⌜ outcome r (tables (now (head .entry)) (now (home .entry)) (now (hardware .entry)) (now (queues .entry)) (now (regions .entry))) ≡ performed Home (tables (now (head .entry)) (now (home .entry)) (now (hardware .entry)) (now (queues .entry)) (now (regions .entry))) ⌝ }
 {
@@ -141,5 +147,5 @@ pub fn is_vm_executing(
     if unsound {
         return Answer::Refused(Error::TablesNotSound);
     }
-    all_home(head, home, hardware, queues, regions)
+    executing(head, home, hardware, queues, regions)
 }

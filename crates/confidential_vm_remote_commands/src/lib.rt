@@ -58,7 +58,8 @@ fn visit(
     Answer::Mask(mask)
 }
 
-// Visits the harts in rising order, until a queue refuses.
+// Visits the harts in rising order, until a queue refuses: each turn gives the mask so far, and any other answer ends the broadcast, as an
+// error ends the Rust's `try_fold`.
 fn deliver(
     home: &[u64],
     n: usize,

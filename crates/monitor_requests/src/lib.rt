@@ -1,4 +1,8 @@
-// The requests that the monitor takes and the answers that it gives. What a request does is said once, in `specs/Requests.antt`.
+// SPDX-FileCopyrightText: 2023 IBM Corporation
+// SPDX-FileContributor: Wojciech Ozga <woz@zurich.ibm.com>, IBM Research - Zurich
+// SPDX-License-Identifier: Apache-2.0
+// Changed: ported to Rattle, with the limits of core/control_data/confidential_vm.rs: its methods are requests, and what they give is an
+// answer. What a request does is said once, in `specs/Requests.antt`.
 ghost use mathlib.Core.Path.{_≡_};
 ghost use Rattle.monitor_requests.specs.Answers.{given};
 use confidential_hart::ConfidentialHartId;

@@ -13,11 +13,11 @@ returns : tie.Need-returns
 unfolding performed tests
 returns c = yes _ (ap not (sym (c .before .are-tables-sound .ensures)) ∙ c .if1 .taken) refl
 
-all-home-requires : tie.Need-all-home-requires
-all-home-requires c κs =
+executing-requires : tie.Need-executing-requires
+executing-requires c κs =
     let s = sym (c .before .are-tables-sound .ensures) ∙ not-false _ (c .if1 .left) in
     (sound-sized _ s, s)
 
 pub is-vm-executing-spec : {M : Type 1} → statement M
 is-vm-executing-spec =
-    tie.close (tie.spec (λ c κs. search needs) returns all-home-requires (λ c. c .all-home .ensures))
+    tie.close (tie.spec (λ c κs. search needs) returns executing-requires (λ c. c .executing .ensures))

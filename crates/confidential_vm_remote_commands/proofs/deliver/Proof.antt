@@ -6,6 +6,8 @@ use lib.ListN.{length}
 use borrow.Author.Needs.{needs}
 use native.Mathlib.Omega.{arith}
 use Rattle.table_rows.proofs.RowLaws.{within}
+use Rattle.hart_rows.specs.Rows.{hartWords}
+use Rattle.remote_commands.specs.Queue.{queueWords}
 use Rattle.monitor_requests.specs.Requests.{deliver}
 use Rattle.confidential_vm_remote_commands.proofs.TurnLaws.{turns-start, turns-done, turn-taken, turn-ends}
 use Rattle.confidential_vm_remote_commands.proofs.deliver.Statement.{statement}
@@ -26,9 +28,9 @@ visit-requires c κs =
     let l = c .before .before in
     let p = l .before .before .before .pre in
     let t = c .before .loop-test .taken in (
-      omega (arith, within 12 _ _ t, p .0 .long),
+      omega (arith, within hartWords _ _ t, p .0 .long),
       p .0 .numbered _ t,
-      omega (arith, within 385 _ _ t, p .1, l .loop .inv .1),
+      omega (arith, within queueWords _ _ t, p .1, l .loop .inv .1),
     )
 
 -- the number of `Mask` among the answers is none of the others'

@@ -3,6 +3,7 @@ use Prim.Native.Nat.{ℕ, _<_}
 use mathlib.Core.Path.{refl, sym, ap, _∙_, subst}
 use mathlib.Core.Bool.{not}
 use Rattle.table_rows.proofs.PickLaws.{yes, no}
+use Rattle.monitor_requests.specs.Tables.{maxHardwareHarts}
 use Rattle.confidential_vm_remote_commands.proofs.TurnLaws.{passed-over, full-refuses, takes}
 use borrow.Author.Needs.{needs}
 use Rattle.confidential_vm_remote_commands.proofs.visit.Statement.{statement}
@@ -22,7 +23,7 @@ enable-bit-requires : tie.Need-enable-bit-requires
 enable-bit-requires c κs =
     let t = c .before in
     let p = t .before .before .before .before .before .before .before in
-    subst (λ (k : ℕ). k < 64) (sym (c .id .ensures))
+    subst (λ (k : ℕ). k < maxHardwareHarts) (sym (c .id .ensures))
     (p .before .before .before .before .pre .1 (sym (t .before .is-dummy .ensures) ∙ t .if3 .taken))
 
 returns-3 : tie.Need-returns-3

@@ -1,5 +1,5 @@
 -- `table_rows::all_zero` meets its contract: the words joined so far are 0 exactly when each of them is. Assumes nothing.
-use Prim.Native.Nat.{ℕ, _≤_, _-_}
+use Prim.Native.Nat.{_≤_, _-_}
 use mathlib.Core.Path.{_≡_, refl, sym, ap, _∙_}
 use native.Mathlib.Nat.{le-antisymm}
 use lib.ListN.{length, getD}
