@@ -1,11 +1,13 @@
-//! Links the archive of the proved functions, which `rt staticlib leaf_exports` writes below `target/` at the root of the repository.
+//! Links the archives of the proved functions, which `rt staticlib NAME` writes below `target/` at the root of the repository.
 use std::path::Path;
 
 fn main() {
     let folder = Path::new(env!("CARGO_MANIFEST_DIR")).join("../target/staticlib");
-    let archive = folder.join("libleaf_exports.a");
-    assert!(archive.exists(), "there is no archive to link: run `rt staticlib leaf_exports` at the root of the repository first");
-    println!("cargo:rerun-if-changed={}", archive.display());
     println!("cargo:rustc-link-search=native={}", folder.display());
-    println!("cargo:rustc-link-lib=static=leaf_exports");
+    for name in ["leaf_exports", "monitor_exports"] {
+        let archive = folder.join(format!("lib{name}.a"));
+        assert!(archive.exists(), "there is no archive to link: run `rt staticlib {name}` at the root of the repository first");
+        println!("cargo:rerun-if-changed={}", archive.display());
+        println!("cargo:rustc-link-lib=static={name}");
+    }
 }

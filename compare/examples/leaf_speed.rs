@@ -1,26 +1,11 @@
 //! Times the leaves that walk a table beside plain Rust that does the same, and prints the ratios. Each time is the least of many runs, and
 //! the two are run in turn on the same tables.
+use compare::document_01::is_queue;
+use compare::timing::ratio;
 use compare::{MOST_REGIONS, QUEUE_WORDS, Queue, Regions, new_region};
 use oracle::core::control_data::{ConfidentialHart, ConfidentialVm, ConfidentialVmId, ConfidentialVmMmioRegion};
 use oracle::driver::{Command, Random};
 use std::hint::black_box;
-use std::time::{Duration, Instant};
-
-const RUNS: usize = 400;
-
-/// The least time of each of the two, over many runs in turn.
-fn ratio(name: &str, mut ours: impl FnMut(), mut rust: impl FnMut()) {
-    let mut least = [Duration::MAX; 2];
-    for _ in 0..RUNS {
-        let start = Instant::now();
-        ours();
-        least[0] = least[0].min(start.elapsed());
-        let start = Instant::now();
-        rust();
-        least[1] = least[1].min(start.elapsed());
-    }
-    println!("| {name} | {:.2} |", least[0].as_secs_f64() / least[1].as_secs_f64());
-}
 
 fn random_command(random: &mut Random) -> Command {
     let (mask, base, start, size, tag) = (random.next(), random.below(64), random.next(), random.next(), random.next());
@@ -30,23 +15,6 @@ fn random_command(random: &mut Random) -> Command {
         kind @ (4 | 5) => Command { kind, mask, base, start, size, tag },
         kind => Command { kind, ..Command::default() },
     }
-}
-
-/// A queue's soundness as one would write it: a match on the kind, and a test a word.
-fn is_queue(queue: &[u64; QUEUE_WORDS]) -> bool {
-    let count = queue[0];
-    if count > 64 {
-        return false;
-    }
-    let (waiting, unused) = queue[1..].split_at(6 * count as usize);
-    let form = |c: &[u64]| match c[0] {
-        1 | 2 => c[3] == 0 && c[4] == 0 && c[5] == 0,
-        3 => c[5] == 0,
-        4 | 5 => true,
-        6 => c[1..].iter().all(|&number| number == 0),
-        _ => false,
-    };
-    waiting.chunks_exact(6).all(form) && unused.iter().all(|&word| word == 0)
 }
 
 fn queues() {

@@ -1,5 +1,11 @@
-//! The proved functions, as Rust calls them. Slices have the lengths that the functions require; `assert!` holds a caller to that.
+//! The proved functions, as Rust calls them: here the leaves, below in `tables` the entries. Slices of a leaf have the lengths that it requires;
+//! `assert!` holds a caller to that.
 use oracle::driver::Command;
+
+pub mod document_01;
+pub mod original;
+pub mod tables;
+pub mod timing;
 
 /// Words of a hart's row, of a queue's row, of a region, and how many regions a table has room for.
 pub const HART_WORDS: usize = 12;

@@ -1,12 +1,13 @@
 //! Each leaf beside the oracle: queues, regions, and a hart's registers and lifecycle beside the Rust that they are ported from; selection and
 //! a command's form beside the oracle's reading of document 01, since the Rust's own is not at hand. What decides soundness is run beside
-//! document 01's paragraph written out here.
-use compare::{HART_WORDS, MOST_REGIONS, QUEUE_WORDS, Queue, Regions, Row, is_hart_selected, is_well_formed, new_region};
+//! document 01's paragraph written out in `src/document_01.rs`.
+use compare::document_01::{is_queue, is_record, is_region_table};
+use compare::{HART_WORDS, MOST_REGIONS, QUEUE_WORDS, Queue, Regions, Row, is_hart_selected, is_well_formed, new_region, original};
 use oracle::core::architecture::GeneralPurposeRegister;
 use oracle::core::architecture::riscv::sbi::NaclSharedMemory;
 use oracle::core::control_data::{ConfidentialHart, ConfidentialVm, ConfidentialVmId, ConfidentialVmMmioRegion};
 use oracle::core::memory_layout::ConfidentialVmPhysicalAddress;
-use oracle::driver::{Command, Random, number_of, operation, operation_numbers, state_number};
+use oracle::driver::{Command, Random, number_of, operation};
 use oracle::error::Error;
 use std::panic::{AssertUnwindSafe, catch_unwind};
 
@@ -220,25 +221,9 @@ fn the_1025th_region_is_refused_as_in_the_rust() {
     assert_eq!(regions, Regions::new());
 }
 
-/// The words of a hart of the Rust.
+/// The row of a hart of the Rust.
 fn hart_words(hart: &ConfidentialHart) -> Row {
-    let [kind, x, y] = hart.clone().take_resumable_operation().map_or([0; 3], |operation| operation_numbers(&operation));
-    let (gprs, csrs) = (hart.gprs(), hart.csrs());
-    Row([
-        !hart.is_dummy() as usize,
-        hart.confidential_hart_id(),
-        state_number(hart.lifecycle_state()),
-        kind,
-        x,
-        y,
-        gprs.read(GeneralPurposeRegister::a0),
-        gprs.read(GeneralPurposeRegister::a1),
-        csrs.mepc.read_from_main_memory(),
-        csrs.vsatp.read_from_main_memory(),
-        csrs.mstatus.read_from_main_memory(),
-        csrs.vsstatus.read_from_main_memory(),
-    ]
-    .map(|word| word as u64))
+    Row(original::hart_words(hart))
 }
 
 fn made(mut hart: ConfidentialHart) -> ConfidentialHart {
@@ -327,14 +312,6 @@ fn a_dummy_changes_nowhere() {
     }
 }
 
-/// Document 01: a record's parts are known ones, an absent operation has two zeros, and a dummy is Started, has no operation and zero registers.
-fn is_record(row: &Row) -> bool {
-    let [vm, _, lifecycle, operation, x, y, registers @ ..] = row.0;
-    let absent = operation != 0 || (x == 0 && y == 0);
-    let dummy = vm != 0 || (lifecycle == 0 && operation == 0 && registers == [0; 6]);
-    vm <= 1 && lifecycle <= 3 && operation <= 5 && absent && dummy
-}
-
 #[test]
 fn a_record_that_is_not_one_is_12_and_stays() {
     let random = &mut Random::new(7);
@@ -345,7 +322,7 @@ fn a_record_that_is_not_one_is_12_and_stays() {
         for _ in 0..random.below(3) {
             row.0[random.below(HART_WORDS)] = random.of(&numbers);
         }
-        let good = is_record(&row);
+        let good = is_record(&row.0);
         seen[good as usize] += 1;
         assert_eq!(row.is_well_formed(), good, "{row:?}");
         let changes: [fn(&mut Row) -> u64; 5] = [|row| row.start(1, 2), Row::suspend, Row::stop, |row| row.wake(1, 2), Row::off];
@@ -360,16 +337,6 @@ fn a_record_that_is_not_one_is_12_and_stays() {
     assert!(seen.iter().all(|&times| times > 10_000), "damaged and not: {seen:?}");
 }
 
-/// Document 01: the count is in range, each command that waits is well formed, and unused places are 0.
-fn is_queue(queue: &Queue) -> bool {
-    let count = queue.0[0] as usize;
-    let form = |place: &[u64]| {
-        let numbers: [usize; 6] = std::array::from_fn(|i| place[i] as usize);
-        Command::of_numbers(&numbers).to_remote_command().is_some()
-    };
-    count <= 64 && queue.0[1..].chunks(6).enumerate().all(|(i, place)| if i < count { form(place) } else { place == [0; 6] })
-}
-
 #[test]
 fn a_queue_with_one_damaged_word_is_told() {
     let random = &mut Random::new(8);
@@ -382,25 +349,17 @@ fn a_queue_with_one_damaged_word_is_told() {
                 queue.offer(command);
             }
         }
-        assert!(is_queue(&queue) && queue.is_well_formed());
+        assert!(is_queue(&queue.0) && queue.is_well_formed());
         for _ in 0..50 {
             let mut damaged = queue.clone();
             let last = 1 + 6 * queue.0[0] as usize;
             let place = if random.one_in(2) { random.below(QUEUE_WORDS) } else { random.below(last) };
             damaged.0[place] = random.of(&[0, 1, 3, 6, 7, 63, 64, 65, 1 << 63, u64::MAX]);
-            seen[is_queue(&damaged) as usize] += 1;
-            assert_eq!(damaged.is_well_formed(), is_queue(&damaged), "{place} {damaged:?}");
+            seen[is_queue(&damaged.0) as usize] += 1;
+            assert_eq!(damaged.is_well_formed(), is_queue(&damaged.0), "{place} {damaged:?}");
         }
     }
     assert!(seen.iter().all(|&times| times > 10_000), "damaged and not: {seen:?}");
-}
-
-/// Document 01: room for 1,024, the count in range, base ≤ end, and unused places are 0.
-fn is_region_table(regions: &Regions) -> bool {
-    regions.words.len() >= 2 * MOST_REGIONS && regions.count <= MOST_REGIONS as u64 && {
-        let (standing, unused) = regions.words[..2 * MOST_REGIONS].split_at(2 * regions.count as usize);
-        standing.chunks(2).all(|place| place[0] <= place[1]) && unused.iter().all(|&word| word == 0)
-    }
 }
 
 #[test]
@@ -412,7 +371,7 @@ fn a_damaged_region_table_is_told() {
         for i in 0..count {
             assert_eq!(regions.add(new_region(8 * i as u64, 8 * (i % 2) as u64).1), 0);
         }
-        assert!(is_region_table(&regions) && regions.are_sound());
+        assert!(is_region_table(&regions.words, regions.count) && regions.are_sound());
         for _ in 0..3_000 {
             let mut damaged = regions.clone();
             match random.below(4) {
@@ -421,8 +380,8 @@ fn a_damaged_region_table_is_told() {
                 2 => damaged.words[random.below(2 * count + 1)] = any(random) as u64,
                 _ => damaged.words[random.below(2 * MOST_REGIONS + 3)] = any(random) as u64,
             }
-            seen[is_region_table(&damaged) as usize] += 1;
-            assert_eq!(damaged.are_sound(), is_region_table(&damaged), "{} {}", damaged.count, damaged.words.len());
+            seen[is_region_table(&damaged.words, damaged.count) as usize] += 1;
+            assert_eq!(damaged.are_sound(), is_region_table(&damaged.words, damaged.count), "{} {}", damaged.count, damaged.words.len());
         }
     }
     assert!(seen.iter().all(|&times| times > 1_000), "damaged and not: {seen:?}");

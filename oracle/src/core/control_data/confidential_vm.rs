@@ -174,3 +174,18 @@ impl ConfidentialVm {
         op(self.remote_commands.get_mut(&confidential_hart_id).ok_or(Error::InvalidHartId())?)
     }
 }
+
+/* Added for Oudrameng: what a comparison looks at */
+impl ConfidentialVm {
+    pub fn confidential_harts(&self) -> &[ConfidentialHart] {
+        &self.confidential_harts
+    }
+
+    pub fn remote_commands(&self, confidential_hart_id: usize) -> &[ConfidentialHartRemoteCommand] {
+        &self.remote_commands[&confidential_hart_id]
+    }
+
+    pub fn mmio_regions(&self) -> &[ConfidentialVmMmioRegion] {
+        &self.mmio_regions
+    }
+}

@@ -1,0 +1,23 @@
+-- What a C function gives, from what its entry gives. Assumes nothing.
+use Prim.Native.Nat.{ℕ, _≤_}
+use mathlib.Core.Path.{_≡_, refl, ap, _∙_}
+use mathlib.Core.List.{List, [], _∷_}
+use native.Mathlib.Omega.{arith}
+use lib.ListN.{length, set}
+use Rattle.monitor_requests.specs.Answers.{given}
+use Rattle.monitor_requests.specs.Requests.{Outcome, over}
+use Rattle.monitor_exports.specs.Exports.{numbered, numberIn, valueWords, Written, written, told, exported, valueIn}
+
+-- the number of the answer of o, where o is the definition's
+pub number-told : {o p : Outcome} {n : ℕ} → o ≡ p → n ≡ given (o .answer) .number → numbered n (o .after) ≡ numberIn p
+number-told {o} e q = ap (λ (n : ℕ). numbered n (o .after)) q ∙ ap numberIn e
+
+-- its number, and its value in the words
+pub value-told : {o p : Outcome} {n : ℕ} {w : List ℕ} (words : List ℕ) → o ≡ p → written n w ≡ told (o .answer) words → exported n w (o .after) ≡ valueIn p words
+value-told {o} words e q =
+    ap (λ (x : Written). exported (x .number) (x .value) (o .after)) q ∙ ap (λ (x : Outcome). valueIn x words) e
+
+-- the first word stored is one word over the front
+pub first-over : (words : List ℕ) (v : ℕ) → valueWords ≤ length words → set words 0 v ≡ over (v ∷ []) words
+first-over [] v l = absurd (omega arith)
+first-over (x ∷ xs) v l = refl

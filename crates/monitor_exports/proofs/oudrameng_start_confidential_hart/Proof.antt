@@ -1,0 +1,12 @@
+-- `monitor_exports::oudrameng_start_confidential_hart` meets its contract: the entry's answer, by its number. Assumes nothing.
+use Rattle.monitor_exports.proofs.ExportLaws.{number-told}
+use borrow.Author.Needs.{needs}
+use Rattle.monitor_exports.proofs.oudrameng_start_confidential_hart.Statement.{statement}
+use Rattle.monitor_exports.proofs.oudrameng_start_confidential_hart.Tie as tie
+
+returns : tie.Need-returns
+returns c = number-told (c .before .before .before .start-confidential-hart .ensures) (c .number .ensures)
+
+pub oudrameng-start-confidential-hart-spec : {M : Type 1} → statement M
+oudrameng-start-confidential-hart-spec =
+    tie.close (tie.spec (λ c κs. search needs) (λ c κs. search needs) (λ c. search needs) returns)

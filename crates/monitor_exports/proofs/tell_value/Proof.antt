@@ -1,0 +1,14 @@
+-- `monitor_exports::tell_value` meets its contract: the store is one word over the front. Assumes nothing.
+use mathlib.Core.Path.{ap}
+use Rattle.error.specs.Error.{done}
+use Rattle.monitor_exports.specs.Exports.{written}
+use Rattle.monitor_exports.proofs.ExportLaws.{first-over}
+use borrow.Author.Needs.{needs}
+use Rattle.monitor_exports.proofs.tell_value.Statement.{statement}
+use Rattle.monitor_exports.proofs.tell_value.Tie as tie
+
+returns : tie.Need-returns
+returns c = ap (written done) (first-over (c .args .value .now) _ (c .pre))
+
+pub tell-value-spec : {M : Type 1} → statement M
+tell-value-spec = tie.close (tie.spec (λ c. search needs) (λ c. search needs) returns)

@@ -1,0 +1,354 @@
+// The entries as C functions: plain numbers and lent tables in, and document 01's number back. An answer's value goes to the first word of one
+// more lent slice. Each promises what the entry that it calls promises, for any numbers and any tables.
+ghost use mathlib.Core.Path.{_≡_};
+ghost use mathlib.Core.List.{[], _∷_};
+ghost use Prim.Native.Nat.{_≤_};
+ghost use lib.ListN.{length};
+ghost use Rattle.table_rows.specs.Choice.{pick};
+ghost use Rattle.error.specs.Error.{done};
+ghost use Rattle.monitor_requests.specs.declared.Request.the-variants.{Setup as RequestSetup, Steal, Return, Start, Status, Home, Send, Allow, Add, Remove, Defined};
+ghost use Rattle.monitor_requests.specs.Tables.{tables, sound};
+ghost use Rattle.monitor_requests.specs.Requests.{over};
+ghost use Rattle.monitor_exports.specs.Exports.{hartId, hardwareHartId, setupOf, commandOf, valueWords, written, told, exported, valued, numbered, unvalued};
+use confidential_hart::ConfidentialHartId;
+use confidential_hart::HardwareHartId;
+use confidential_hart_remote_command::ConfidentialHartRemoteCommand;
+use monitor_requests::Answer;
+use monitor_requests::Setup;
+
+// The words of an answer's value.
+const VALUE_WORDS: usize = 1;
+
+// A truth as a number: 1 or 0.
+fn word_of(flag: bool) -> u64
+    ensures { λ r. ⌜ r ≡ pick flag 1 0 ⌝ }
+{
+    if flag {
+        return 1;
+    }
+    0
+}
+
+// Writes a value, and gives 0.
+fn tell_value(word: u64, value: &mut [u64]) -> u64
+    requires { ⌜ valueWords ≤ length (now value) ⌝ }
+    ensures { λ r. ⌜ written r (now (value .exit)) ≡ written done (over (word ∷ []) (now (value .entry))) ⌝ }
+{
+    value[0] = word;
+    error::DONE
+}
+
+// Writes the value of an answer, where it has one, and gives its number.
+fn tell(answer: Answer, value: &mut [u64]) -> u64
+    requires { ⌜ valueWords ≤ length (now value) ⌝ }
+    ensures { λ r. ⌜ written r (now (value .exit)) ≡ told answer (now (value .entry)) ⌝ }
+{
+    match answer {
+        Answer::Refused(e) => e.number(),
+        Answer::Done => error::DONE,
+        Answer::Mask(mask) => tell_value(mask, value),
+        Answer::State(state) => tell_value(state, value),
+        Answer::Flag(flag) => tell_value(word_of(flag), value),
+    }
+}
+
+// Whether the tables are sound, as 1 or 0.
+#[no_mangle]
+pub extern "C" fn oudrameng_are_tables_sound(
+    head: &[u64],
+    home: &[u64],
+    hardware: &[u64],
+    queues: &[u64],
+    regions: &[u64],
+) -> u64
+    ensures { λ r. ⌜ r ≡ pick (sound (tables (now (head .entry)) (now (home .entry)) (now (hardware .entry)) (now (queues .entry)) (now (regions .entry)))) 1 0 ⌝ }
+{
+    word_of(sound_tables::are_tables_sound(head, home, hardware, queues, regions))
+}
+
+// Sets up a VM.
+#[no_mangle]
+pub extern "C" fn oudrameng_new(
+    n: u64,
+    m: u64,
+    boot: u64,
+    a1: u64,
+    mepc: u64,
+    vsatp: u64,
+    vsstatus: u64,
+    head: &mut [u64],
+    home: &mut [u64],
+    hardware: &mut [u64],
+    queues: &mut [u64],
+    regions: &mut [u64],
+) -> u64
+    ensures { λ r. ⌜ numbered r (tables (now (head .exit)) (now (home .exit)) (now (hardware .exit)) (now (queues .exit)) (now (regions .exit))) ≡ unvalued (RequestSetup (setupOf n m boot a1 mepc vsatp vsstatus)) (tables (now (head .entry)) (now (home .entry)) (now (hardware .entry)) (now (queues .entry)) (now (regions .entry))) ⌝ }
+{
+    let setup = Setup {
+        harts: n,
+        hardware: m,
+        boot,
+        a1,
+        mepc,
+        vsatp,
+        vsstatus,
+    };
+    confidential_vm_setup::new(setup, head, home, hardware, queues, regions).number()
+}
+
+// Assigns a hart to a hardware hart. The value is the mask of external interrupts.
+#[no_mangle]
+pub extern "C" fn oudrameng_steal_confidential_hart(
+    hart: u64,
+    on: u64,
+    head: &[u64],
+    home: &mut [u64],
+    hardware: &mut [u64],
+    queues: &[u64],
+    regions: &[u64],
+    value: &mut [u64],
+) -> u64
+    ensures { λ r. ⌜ exported r (now (value .exit)) (tables (now (head .entry)) (now (home .exit)) (now (hardware .exit)) (now (queues .entry)) (now (regions .entry))) ≡ valued (Steal (hartId hart) (hardwareHartId on)) (now (value .entry)) (tables (now (head .entry)) (now (home .entry)) (now (hardware .entry)) (now (queues .entry)) (now (regions .entry))) ⌝ }
+{
+    if value.len() < VALUE_WORDS {
+        return error::ROOM_TOO_SHORT;
+    }
+    let answer = confidential_vm::steal_confidential_hart(
+        ConfidentialHartId(hart),
+        HardwareHartId(on),
+        head,
+        home,
+        hardware,
+        queues,
+        regions,
+    );
+    tell(answer, value)
+}
+
+// Takes the hart of a hardware hart home.
+#[no_mangle]
+pub extern "C" fn oudrameng_return_confidential_hart(
+    on: u64,
+    head: &[u64],
+    home: &mut [u64],
+    hardware: &mut [u64],
+    queues: &[u64],
+    regions: &[u64],
+) -> u64
+    ensures { λ r. ⌜ numbered r (tables (now (head .entry)) (now (home .exit)) (now (hardware .exit)) (now (queues .entry)) (now (regions .entry))) ≡ unvalued (Return (hardwareHartId on)) (tables (now (head .entry)) (now (home .entry)) (now (hardware .entry)) (now (queues .entry)) (now (regions .entry))) ⌝ }
+{
+    confidential_vm::return_confidential_hart(
+        HardwareHartId(on),
+        head,
+        home,
+        hardware,
+        queues,
+        regions,
+    ).number()
+}
+
+// Allows external interrupts.
+#[no_mangle]
+pub extern "C" fn oudrameng_allow_external_interrupt(
+    bits: u64,
+    head: &mut [u64],
+    home: &[u64],
+    hardware: &[u64],
+    queues: &[u64],
+    regions: &[u64],
+) -> u64
+    ensures { λ r. ⌜ numbered r (tables (now (head .exit)) (now (home .entry)) (now (hardware .entry)) (now (queues .entry)) (now (regions .entry))) ≡ unvalued (Allow bits) (tables (now (head .entry)) (now (home .entry)) (now (hardware .entry)) (now (queues .entry)) (now (regions .entry))) ⌝ }
+{
+    confidential_vm::allow_external_interrupt(bits, head, home, hardware, queues, regions).number()
+}
+
+// Starts a hart.
+#[no_mangle]
+pub extern "C" fn oudrameng_start_confidential_hart(
+    hart: u64,
+    address: u64,
+    opaque: u64,
+    head: &[u64],
+    home: &mut [u64],
+    hardware: &[u64],
+    queues: &[u64],
+    regions: &[u64],
+) -> u64
+    ensures { λ r. ⌜ numbered r (tables (now (head .entry)) (now (home .exit)) (now (hardware .entry)) (now (queues .entry)) (now (regions .entry))) ≡ unvalued (Start (hartId hart) address opaque) (tables (now (head .entry)) (now (home .entry)) (now (hardware .entry)) (now (queues .entry)) (now (regions .entry))) ⌝ }
+{
+    confidential_vm_lifecycle::start_confidential_hart(
+        ConfidentialHartId(hart),
+        address,
+        opaque,
+        head,
+        home,
+        hardware,
+        queues,
+        regions,
+    ).number()
+}
+
+// The value is the lifecycle of a hart.
+#[no_mangle]
+pub extern "C" fn oudrameng_confidential_hart_lifecycle_state(
+    hart: u64,
+    head: &[u64],
+    home: &[u64],
+    hardware: &[u64],
+    queues: &[u64],
+    regions: &[u64],
+    value: &mut [u64],
+) -> u64
+    ensures { λ r. ⌜ exported r (now (value .exit)) (tables (now (head .entry)) (now (home .entry)) (now (hardware .entry)) (now (queues .entry)) (now (regions .entry))) ≡ valued (Status (hartId hart)) (now (value .entry)) (tables (now (head .entry)) (now (home .entry)) (now (hardware .entry)) (now (queues .entry)) (now (regions .entry))) ⌝ }
+{
+    if value.len() < VALUE_WORDS {
+        return error::ROOM_TOO_SHORT;
+    }
+    let answer = confidential_vm_lifecycle::confidential_hart_lifecycle_state(
+        ConfidentialHartId(hart),
+        head,
+        home,
+        hardware,
+        queues,
+        regions,
+    );
+    tell(answer, value)
+}
+
+// The value is 1 where every hart is at home, and else 0.
+#[no_mangle]
+pub extern "C" fn oudrameng_is_vm_executing(
+    head: &[u64],
+    home: &[u64],
+    hardware: &[u64],
+    queues: &[u64],
+    regions: &[u64],
+    value: &mut [u64],
+) -> u64
+    ensures { λ r. ⌜ exported r (now (value .exit)) (tables (now (head .entry)) (now (home .entry)) (now (hardware .entry)) (now (queues .entry)) (now (regions .entry))) ≡ valued Home (now (value .entry)) (tables (now (head .entry)) (now (home .entry)) (now (hardware .entry)) (now (queues .entry)) (now (regions .entry))) ⌝ }
+{
+    if value.len() < VALUE_WORDS {
+        return error::ROOM_TOO_SHORT;
+    }
+    let answer = confidential_vm_lifecycle::is_vm_executing(head, home, hardware, queues, regions);
+    tell(answer, value)
+}
+
+// Sends a command. The value is the mask of hardware harts to interrupt.
+#[no_mangle]
+pub extern "C" fn oudrameng_broadcast_remote_command(
+    sender: u64,
+    kind: u64,
+    mask: u64,
+    base: u64,
+    start: u64,
+    size: u64,
+    tag: u64,
+    head: &[u64],
+    home: &[u64],
+    hardware: &[u64],
+    queues: &mut [u64],
+    regions: &[u64],
+    value: &mut [u64],
+) -> u64
+    ensures { λ r. ⌜ exported r (now (value .exit)) (tables (now (head .entry)) (now (home .entry)) (now (hardware .entry)) (now (queues .exit)) (now (regions .entry))) ≡ valued (Send sender (commandOf kind mask base start size tag)) (now (value .entry)) (tables (now (head .entry)) (now (home .entry)) (now (hardware .entry)) (now (queues .entry)) (now (regions .entry))) ⌝ }
+{
+    if value.len() < VALUE_WORDS {
+        return error::ROOM_TOO_SHORT;
+    }
+    let c = ConfidentialHartRemoteCommand {
+        kind,
+        mask,
+        base,
+        start,
+        size,
+        tag,
+    };
+    let answer = confidential_vm_remote_commands::broadcast_remote_command(
+        sender,
+        c,
+        head,
+        home,
+        hardware,
+        queues,
+        regions,
+    );
+    tell(answer, value)
+}
+
+// Adds a region.
+#[no_mangle]
+pub extern "C" fn oudrameng_add_mmio_region(
+    base: u64,
+    size: u64,
+    head: &mut [u64],
+    home: &[u64],
+    hardware: &[u64],
+    queues: &[u64],
+    regions: &mut [u64],
+) -> u64
+    ensures { λ r. ⌜ numbered r (tables (now (head .exit)) (now (home .entry)) (now (hardware .entry)) (now (queues .entry)) (now (regions .exit))) ≡ unvalued (Add base size) (tables (now (head .entry)) (now (home .entry)) (now (hardware .entry)) (now (queues .entry)) (now (regions .entry))) ⌝ }
+{
+    confidential_vm_mmio_regions::add_mmio_region(
+        base,
+        size,
+        head,
+        home,
+        hardware,
+        queues,
+        regions,
+    ).number()
+}
+
+// Removes the regions that overlap one.
+#[no_mangle]
+pub extern "C" fn oudrameng_remove_mmio_region(
+    base: u64,
+    size: u64,
+    head: &mut [u64],
+    home: &[u64],
+    hardware: &[u64],
+    queues: &[u64],
+    regions: &mut [u64],
+) -> u64
+    ensures { λ r. ⌜ numbered r (tables (now (head .exit)) (now (home .entry)) (now (hardware .entry)) (now (queues .entry)) (now (regions .exit))) ≡ unvalued (Remove base size) (tables (now (head .entry)) (now (home .entry)) (now (hardware .entry)) (now (queues .entry)) (now (regions .entry))) ⌝ }
+{
+    confidential_vm_mmio_regions::remove_mmio_region(
+        base,
+        size,
+        head,
+        home,
+        hardware,
+        queues,
+        regions,
+    ).number()
+}
+
+// The value is 1 where a region contains the one given, and else 0.
+#[no_mangle]
+pub extern "C" fn oudrameng_is_mmio_region_defined(
+    base: u64,
+    size: u64,
+    head: &[u64],
+    home: &[u64],
+    hardware: &[u64],
+    queues: &[u64],
+    regions: &[u64],
+    value: &mut [u64],
+) -> u64
+    ensures { λ r. ⌜ exported r (now (value .exit)) (tables (now (head .entry)) (now (home .entry)) (now (hardware .entry)) (now (queues .entry)) (now (regions .entry))) ≡ valued (Defined base size) (now (value .entry)) (tables (now (head .entry)) (now (home .entry)) (now (hardware .entry)) (now (queues .entry)) (now (regions .entry))) ⌝ }
+{
+    if value.len() < VALUE_WORDS {
+        return error::ROOM_TOO_SHORT;
+    }
+    let answer = confidential_vm_mmio_regions::is_mmio_region_defined(
+        base,
+        size,
+        head,
+        home,
+        hardware,
+        queues,
+        regions,
+    );
+    tell(answer, value)
+}
