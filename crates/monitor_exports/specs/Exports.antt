@@ -17,16 +17,20 @@ use Rattle.monitor_requests.specs.Requests.{Outcome, over, performed}
 
 -- ---- plain numbers as what a request takes
 
+-- a confidential hart's number
 abbrev pub hartId : ℕ → ConfidentialHartId
 hartId h = record { 0 = h }
 
+-- a hardware hart's number
 abbrev pub hardwareHartId : ℕ → HardwareHartId
 hardwareHartId k = record { 0 = k }
 
+-- what setup takes
 abbrev pub setupOf : ℕ → ℕ → ℕ → ℕ → ℕ → ℕ → ℕ → Setup
 setupOf n m boot a1 mepc vsatp vsstatus =
     record { harts = n; hardware = m; boot = boot; a1 = a1; mepc = mepc; vsatp = vsatp; vsstatus = vsstatus }
 
+-- a command by its six numbers
 abbrev pub commandOf : ℕ → ℕ → ℕ → ℕ → ℕ → ℕ → ConfidentialHartRemoteCommand
 commandOf kind mask base start size tag = record { kind = kind; mask = mask; base = base; start = start; size = size; tag = tag }
 
@@ -49,8 +53,9 @@ numberIn o = numbered (given (o .answer) .number) (o .after)
 abbrev pub unvalued : Request → Tables → Numbered
 unvalued r t = numberIn (performed r t)
 
--- ---- a request whose answer may have a value, of one word
+-- ---- a request whose answer may have a value
 
+-- how many words a value has
 abbrev pub valueWords : ℕ
 valueWords = 1
 
