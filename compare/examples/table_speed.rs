@@ -23,7 +23,7 @@ fn are_sound(tables: &Tables) -> bool {
                     row[1] == i as u64
                 } else {
                     let tied = others.get((row[1] as usize).saturating_mul(HART_WORDS)..).unwrap_or(&[]);
-                    tied.len() >= HART_WORDS && tied[0] == 1 - own && tied[1] == i as u64
+                    tied.len() >= HART_WORDS && tied[0] == own && tied[1] == i as u64
                 }
         })
     };
@@ -75,6 +75,10 @@ fn main() {
             );
             let mut hardware_hart = HardwareHart::init(1);
             let (h, k) = (n as u64 - 1, 1);
+            // The plain judge also agrees while a hart is stolen.
+            let mut stolen = words.clone();
+            assert_eq!(stolen.steal_confidential_hart(h, k, &mut [0]), 0);
+            assert!(are_sound(&stolen));
             ratio(
                 &format!("steal and return, {size}"),
                 || {
