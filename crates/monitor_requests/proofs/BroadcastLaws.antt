@@ -16,11 +16,11 @@ use Rattle.bits.proofs.BitLaws.{set-same, set-other, set-lt, bit-above}
 use Rattle.table_rows.specs.Rows.{row, put}
 use Rattle.table_rows.specs.Choice.{pick, some}
 use Rattle.table_rows.proofs.PickLaws.{yes, no, by-pick, by-test, and-left, and-right, and-both, not-yes, not-no}
-use Rattle.table_rows.proofs.SomeLaws.{some-is, some-at, some-none}
+use Rattle.table_rows.proofs.SomeLaws.{some-is, some-of, none-of, some-at, some-none}
 use Rattle.table_rows.proofs.RowLaws.{row-length, put-length, row-put-same, row-put-other, put-elsewhere}
 use Rattle.confidential_hart_remote_command.specs.declared.ConfidentialHartRemoteCommand.{ConfidentialHartRemoteCommand}
 use Rattle.confidential_hart_remote_command.specs.Command.{wellFormed}
-use Rattle.confidential_hart_remote_command.specs.Selection.{selects}
+use Rattle.confidential_hart_remote_command.specs.Selection.{xlen, selects}
 use Rattle.remote_commands.specs.Queue.{maxCommands, queueWords, count, offered, queueWellFormed}
 use Rattle.remote_commands.proofs.OfferLaws.{offer-length, offer-well-formed}
 use Rattle.confidential_hart.specs.Hart.{isDummy}
@@ -30,22 +30,22 @@ use Rattle.hart_rows.specs.Rows.{hartAt}
 use Rattle.monitor_requests.specs.declared.Request.the-variants.{Send}
 use Rattle.monitor_requests.specs.declared.Answer.{Answer}
 use Rattle.monitor_requests.specs.declared.Answer.the-variants.{Refused, Done, Mask, State, Flag}
+use Rattle.monitor_requests.specs.Answers.{given}
 use Rattle.monitor_requests.specs.Tables.{Tables, harts, homeHart, queue, maxHardwareHarts, sound}
-use Rattle.monitor_requests.specs.Requests.{outcome, tests, withQueues, receives, interrupting, Delivery, delivery, deliver, broadcast, effect, performed}
+use Rattle.monitor_requests.specs.Requests.{Outcome, outcome, tests, withQueues, receives, interrupting, Delivery, delivery, deliver, broadcast, effect, performed}
+use Rattle.monitor_requests.proofs.JudgedLaws.{unsound-refused}
 use Rattle.monitor_requests.proofs.SoundLaws.{sound-facts, facts-sound, home-formed, away-names}
 
--- ---- the request, by its three ways
+-- ---- the request on sound tables, by its two ways
 
 module _ (sender : ℕ) (c : ConfidentialHartRemoteCommand) (t : Tables) where
-  pub send-unsound : sound t ≡ false → performed (Send sender c) t ≡ outcome (Refused TablesNotSound) t
-  unfolding performed tests
-  send-unsound s = sym (yes _ (not-yes _ s) refl)
-
   module _ (s : sound t ≡ true) where
+    -- on sound tables a command that is not well formed gives 19, and nothing changes
     pub send-unknown : wellFormed c ≡ false → performed (Send sender c) t ≡ outcome (Refused UnknownKind) t
     unfolding performed tests
     send-unknown w = sym (no _ (not-no _ s) (yes _ (not-yes _ w) refl))
 
+    -- and a well-formed one gives what the broadcast gives
     pub send-known : wellFormed c ≡ true
         → performed (Send sender c) t ≡ outcome (broadcast sender c t .answer) (withQueues (broadcast sender c t .queues) t)
     unfolding performed tests effect
@@ -123,6 +123,7 @@ module _ (home : List ℕ) (sender : ℕ) (c : ConfidentialHartRemoteCommand) wh
   refusing zero h queues = h
   refusing (suc left) h queues = pick (refusesAt queues h) h (refusing left (h + 1) queues)
 
+  -- it is h or above
   pub refusing-from : (left h : ℕ) (queues : List ℕ) → h ≤ refusing left h queues
   unfolding refusing
   refusing-from zero h queues = omega arith
@@ -130,6 +131,7 @@ module _ (home : List ℕ) (sender : ℕ) (c : ConfidentialHartRemoteCommand) wh
       by-pick (λ r. h ≤ r) (refusesAt queues h) h (refusing left (h + 1) queues) (λ e. omega arith)
       (λ e. omega (arith, refusing-from left (h + 1) queues))
 
+  -- it is at most the one past the last
   pub refusing-to : (left h : ℕ) (queues : List ℕ) → refusing left h queues ≤ h + left
   unfolding refusing
   refusing-to zero h queues = omega arith
@@ -137,7 +139,7 @@ module _ (home : List ℕ) (sender : ℕ) (c : ConfidentialHartRemoteCommand) wh
       by-pick (λ r. r ≤ h + suc left) (refusesAt queues h) h (refusing left (h + 1) queues) (λ e. omega arith)
       (λ e. omega (arith, refusing-to left (h + 1) queues))
 
-  -- it refuses, and none before it does
+  -- it refuses, where it is one of them
   pub refusing-does : (left h : ℕ) (queues : List ℕ) → refusing left h queues < h + left → refusesAt queues (refusing left h queues) ≡ true
   unfolding refusing
   refusing-does zero h queues = λ l. absurd (omega arith)
@@ -145,6 +147,7 @@ module _ (home : List ℕ) (sender : ℕ) (c : ConfidentialHartRemoteCommand) wh
       by-pick (λ r. r < h + suc left → refusesAt queues r ≡ true) (refusesAt queues h) h (refusing left (h + 1) queues) (λ e l. e)
       (λ e l. refusing-does left (h + 1) queues (omega arith))
 
+  -- none from h to below it refuses
   pub refusing-first : (left h : ℕ) (queues : List ℕ) (j : ℕ) → h ≤ j → j < refusing left h queues → refusesAt queues j ≡ false
   unfolding refusing
   refusing-first zero h queues j a = λ b. absurd (omega arith)
@@ -207,6 +210,7 @@ module _ (home : List ℕ) (sender : ℕ) (c : ConfidentialHartRemoteCommand) wh
   abbrev Fits : ℕ → ℕ → List ℕ → Type 0
   Fits left h queues = (h + left) * queueWords ≤ length queues
 
+  -- the queues keep their length
   pub deliver-length : (left h mask : ℕ) (queues : List ℕ) → Fits left h queues → length (deliver home sender c left h mask queues .queues) ≡ length queues
   deliver-length =
       by-turns (λ left h mask queues d. Fits left h queues → length (d .queues) ≡ length queues) (λ h mask queues f. refl)
@@ -378,16 +382,16 @@ module _ (home : List ℕ) (sender : ℕ) (c : ConfidentialHartRemoteCommand) wh
       (λ j a b. some-none (interruptsOn k) j n (omega arith) e)
       ∙ sym e)
 
-  -- there is no bit from 64 on, where each dummy has a number below 64
-  pub interrupted-small : (left h mask : ℕ) → ((j : ℕ) → j < h + left → isDummy (hartAt home j) ≡ true → hartAt home j .id < 64) → mask < 2 ^ 64
-      → interrupted left h mask < 2 ^ 64
+  -- there is no bit from xlen on, where each dummy has a number below it
+  pub interrupted-small : (left h mask : ℕ) → ((j : ℕ) → j < h + left → isDummy (hartAt home j) ≡ true → hartAt home j .id < xlen) → mask < 2 ^ xlen
+      → interrupted left h mask < 2 ^ xlen
   unfolding interrupted
   interrupted-small zero h mask ids l = l
   interrupted-small (suc left) h mask ids l =
       interrupted-small left (h + 1) _ (λ j b. ids j (omega arith))
-      (by-pick (λ (x : ℕ). x < 2 ^ 64) (receives home sender c h) _ mask
-      (λ r. by-pick (λ (x : ℕ). x < 2 ^ 64) (isDummy (hartAt home h)) _ mask
-      (λ d. set-lt 64 (hartAt home h .id) mask l (ids h (omega arith) d)) (λ d. l))
+      (by-pick (λ (x : ℕ). x < 2 ^ xlen) (receives home sender c h) _ mask
+      (λ r. by-pick (λ (x : ℕ). x < 2 ^ xlen) (isDummy (hartAt home h)) _ mask
+      (λ d. set-lt xlen (hartAt home h .id) mask l (ids h (omega arith) d)) (λ d. l))
       (λ r. l))
 
 -- ---- a broadcast over sound tables
@@ -416,17 +420,16 @@ unfolding pick
 told-refused true e f m p = (refl, p)
 told-refused false e f m p = absurd (false≢true (sym (ap masked p)))
 
--- what 8 means: hart `hart` receives and has 64 already; each that receives below it had fewer and has the command offered; the others
--- below it, and all from it on, are as they were
-pub record RefusedAt (sender : ℕ) (c : ConfidentialHartRemoteCommand) (t : Tables) (hart : ℕ) : Type 0 where
+-- what 8 means, and how it leaves the queues: hart `hart` receives and has 64 already; each that receives below it had fewer and has the
+-- command offered; the others below it, and all from it on, are as they were
+pub record RefusedAt (sender : ℕ) (c : ConfidentialHartRemoteCommand) (t : Tables) (after : List ℕ) (hart : ℕ) : Type 0 where
   pub there : hart < harts t
   pub receiving : receives (t .home) sender c hart ≡ true
   pub full : maxCommands ≤ count (queue t hart)
   pub room : (j : ℕ) → j < hart → receives (t .home) sender c j ≡ true → count (queue t j) < maxCommands
-  pub below : (j : ℕ) → j < hart → receives (t .home) sender c j ≡ true
-      → row queueWords (broadcast sender c t .queues) j ≡ offered (queue t j) c .queue
-  pub passed : (j : ℕ) → j < hart → receives (t .home) sender c j ≡ false → row queueWords (broadcast sender c t .queues) j ≡ queue t j
-  pub above : (j : ℕ) → j < harts t → hart ≤ j → row queueWords (broadcast sender c t .queues) j ≡ queue t j
+  pub below : (j : ℕ) → j < hart → receives (t .home) sender c j ≡ true → row queueWords after j ≡ offered (queue t j) c .queue
+  pub passed : (j : ℕ) → j < hart → receives (t .home) sender c j ≡ false → row queueWords after j ≡ queue t j
+  pub above : (j : ℕ) → j < harts t → hart ≤ j → row queueWords after j ≡ queue t j
 
 module _ (sender : ℕ) (c : ConfidentialHartRemoteCommand) (t : Tables) where
   -- the hart that refuses, or n where none does
@@ -436,6 +439,13 @@ module _ (sender : ℕ) (c : ConfidentialHartRemoteCommand) (t : Tables) where
   -- hart h has the command offered
   abbrev pub delivers : ℕ → Bool
   delivers h = receives (t .home) sender c h && ltb h refuser
+
+  -- a hart that receives below the one that refuses has room
+  below-room : (j : ℕ) → j < refuser → receives (t .home) sender c j ≡ true → count (queue t j) < maxCommands
+  below-room j l r =
+      leb-false _ _
+      (sym (ap (λ (x : Bool). x && leb maxCommands (count (queue t j))) r)
+      ∙ refusing-first (t .home) sender c (harts t) 0 (t .queues) j (omega arith) l)
 
   module _ (s : sound t ≡ true) where
     room-for : (0 + harts t) * queueWords ≤ length (t .queues)
@@ -447,27 +457,32 @@ module _ (sender : ℕ) (c : ConfidentialHartRemoteCommand) (t : Tables) where
     row-fits : (j : ℕ) → j < harts t → j * queueWords + queueWords ≤ length (t .queues)
     row-fits j l = omega (arith, room-for)
 
+    -- it is at most n
     pub refuser-bound : refuser ≤ harts t
     refuser-bound = omega (arith, refusing-to (t .home) sender c (harts t) 0 (t .queues))
 
-    -- the words: as many as before, and those past the queues as they were
+    -- the queues are as long as before
     pub broadcast-length : length (broadcast sender c t .queues) ≡ length (t .queues)
     broadcast-length = deliver-length (t .home) sender c (harts t) 0 0 (t .queues) room-for
 
+    -- the words past the queues are as they were
     pub broadcast-past : (k : ℕ) → harts t * queueWords ≤ k → getD (broadcast sender c t .queues) k 0 ≡ getD (t .queues) k 0
     broadcast-past k l = deliver-past (t .home) sender c k (harts t) 0 0 (t .queues) room-for (omega arith)
 
-    -- the queue of hart j: offered the command where j receives and lies below the one that refuses, else as it was
+    -- a hart that receives below the one that refuses has the command offered
     pub delivered-row : (j : ℕ) → j < refuser → receives (t .home) sender c j ≡ true
         → row queueWords (broadcast sender c t .queues) j ≡ offered (queue t j) c .queue
     delivered-row j l r = turns .took j (omega arith) l r
 
+    -- the queue of a hart that does not receive is as it was
     pub passed-row : (j : ℕ) → j < harts t → receives (t .home) sender c j ≡ false → row queueWords (broadcast sender c t .queues) j ≡ queue t j
     passed-row j l r = turns .passed j (row-fits j l) r
 
+    -- so are those of the hart that refuses and of all above it
     pub rest-row : (j : ℕ) → j < harts t → refuser ≤ j → row queueWords (broadcast sender c t .queues) j ≡ queue t j
     rest-row j l g = turns .rest j (row-fits j l) g
 
+    -- all three in one: hart j's queue has the command offered where it is delivered, else it is as it was
     pub queue-after : (j : ℕ) → j < harts t
         → row queueWords (broadcast sender c t .queues) j ≡ pick (delivers j) (offered (queue t j) c .queue) (queue t j)
     queue-after j l =
@@ -516,13 +531,16 @@ module _ (sender : ℕ) (c : ConfidentialHartRemoteCommand) (t : Tables) where
       found : (ltb refuser (harts t) ≡ false) × (interrupted (t .home) sender c (harts t) 0 0 ≡ mask)
       found = told-mask (ltb refuser (harts t)) ReachedMaxNumberOfRemoteCommands (interrupted (t .home) sender c (harts t) 0 0) mask (sym answer-is ∙ e)
 
+      -- none refuses
       pub mask-none : refuser ≡ harts t
       mask-none = le-antisymm refuser-bound (ltb-false _ _ (found .0))
 
+      -- bit k is 1 exactly when the home row of some hart that receives holds dummy k
       pub mask-bits : (k : ℕ) → eqb (bit k mask) 1 ≡ some (interruptsOn (t .home) sender c k) (harts t)
       mask-bits k = rw (← (found .1)) (interrupted-bits (t .home) sender c k (harts t))
 
-      pub mask-small : mask < 2 ^ 64
+      -- the mask is a word
+      pub mask-small : mask < 2 ^ xlen
       mask-small =
           rw (← (found .1))
           (interrupted-small (t .home) sender c (harts t) 0 0 (λ j b d. dummy-number t s j (omega arith) d) (omega arith))
@@ -532,10 +550,12 @@ module _ (sender : ℕ) (c : ConfidentialHartRemoteCommand) (t : Tables) where
       refused : (ltb refuser (harts t) ≡ true) × (Refused ReachedMaxNumberOfRemoteCommands ≡ Refused f)
       refused = told-refused (ltb refuser (harts t)) ReachedMaxNumberOfRemoteCommands f (interrupted (t .home) sender c (harts t) 0 0) (sym answer-is ∙ e)
 
+      -- it is 8
       pub refused-number : Refused f ≡ Refused ReachedMaxNumberOfRemoteCommands
       refused-number = sym (refused .1)
 
-      pub refused-at : RefusedAt sender c t refuser
+      -- and the queues are as 8 leaves them
+      pub refused-at : RefusedAt sender c t (broadcast sender c t .queues) refuser
       refused-at =
           let l : refuser < harts t = ltb-true _ _ (refused .0) in
           let d = refusing-does (t .home) sender c (harts t) 0 (t .queues) (omega arith) in
@@ -543,10 +563,7 @@ module _ (sender : ℕ) (c : ConfidentialHartRemoteCommand) (t : Tables) where
             there = l;
             receiving = and-left (receives (t .home) sender c refuser) _ d;
             full = leb-true _ _ (and-right (receives (t .home) sender c refuser) _ d);
-            room = λ j b r.
-                leb-false _ _
-                (sym (ap (λ (x : Bool). x && leb maxCommands (count (queue t j))) r)
-                ∙ refusing-first (t .home) sender c (harts t) 0 (t .queues) j (omega arith) b);
+            room = below-room;
             below = delivered-row;
             passed = λ j b r. passed-row j (omega arith) r;
             above = rest-row;
@@ -586,3 +603,106 @@ module _ (sender : ℕ) (c : ConfidentialHartRemoteCommand) (t : Tables) where
 pub send-sound : (sender : ℕ) (c : ConfidentialHartRemoteCommand) (t : Tables) → sound t ≡ true → sound (performed (Send sender c) t .after) ≡ true
 send-sound sender c t s =
     by-test (wellFormed c) (λ w. rw (send-known sender c t s w) (broadcast-sound sender c t s w)) (λ w. rw (send-unknown sender c t s w) s)
+
+-- ---- what an answer of the request tells
+
+-- a mask tells that the tables are sound, that the command is well formed, and that no hart that receives had 64 already; bit k is 1
+-- exactly when the home row of some hart that receives holds dummy k, and there are no bits past a word
+pub record Masked (sender : ℕ) (c : ConfidentialHartRemoteCommand) (t : Tables) (mask : ℕ) : Type 0 where
+  pub tables-sound : sound t ≡ true
+  pub command-formed : wellFormed c ≡ true
+  pub room : (j : ℕ) → j < harts t → receives (t .home) sender c j ≡ true → count (queue t j) < maxCommands
+  pub bits : (k : ℕ) → eqb (bit k mask) 1 ≡ some (interruptsOn (t .home) sender c k) (harts t)
+  pub small : mask < 2 ^ xlen
+
+module _ (sender : ℕ) (c : ConfidentialHartRemoteCommand) (t : Tables) where
+  -- an answer that is neither 12 nor 19 is the broadcast's, over sound tables and with a well-formed command
+  module _ (a : Answer) (p : performed (Send sender c) t .answer ≡ a) (not-12 : Refused TablesNotSound ≢ a) (not-19 : Refused UnknownKind ≢ a) where
+    went-sound : sound t ≡ true
+    went-sound =
+        by-test (sound t) (λ s. s)
+        (λ s. absurd (not-12 (sym (ap (λ (o : Outcome). o .answer) (unsound-refused (Send sender c) t refl s)) ∙ p)))
+
+    went-formed : wellFormed c ≡ true
+    went-formed =
+        by-test (wellFormed c) (λ w. w)
+        (λ w. absurd (not-19 (sym (ap (λ (o : Outcome). o .answer) (send-unknown sender c t went-sound w)) ∙ p)))
+
+    went : performed (Send sender c) t ≡ outcome (broadcast sender c t .answer) (withQueues (broadcast sender c t .queues) t)
+    went = send-known sender c t went-sound went-formed
+
+    went-answer : broadcast sender c t .answer ≡ a
+    went-answer = sym (ap (λ (o : Outcome). o .answer) went) ∙ p
+
+    went-queues : performed (Send sender c) t .after .queues ≡ broadcast sender c t .queues
+    went-queues = ap (λ (o : Outcome). o .after .queues) went
+
+  module _ (mask : ℕ) (p : performed (Send sender c) t .answer ≡ Mask mask) where
+    no-mask : (e : Error) → Refused e ≢ Mask mask
+    no-mask e q = false≢true (ap masked q)
+
+    s : sound t ≡ true
+    s = went-sound (Mask mask) p (no-mask TablesNotSound) (no-mask UnknownKind)
+
+    answered : broadcast sender c t .answer ≡ Mask mask
+    answered = went-answer (Mask mask) p (no-mask TablesNotSound) (no-mask UnknownKind)
+
+    all-below : (j : ℕ) → j < harts t → j < refuser sender c t
+    all-below j l = rw (mask-none sender c t s mask answered) l
+
+    -- the request gives a mask
+    pub send-mask : Masked sender c t mask
+    send-mask =
+        record {
+          tables-sound = s;
+          command-formed = went-formed (Mask mask) p (no-mask TablesNotSound) (no-mask UnknownKind);
+          room = λ j l r. below-room sender c t j (all-below j l) r;
+          bits = mask-bits sender c t s mask answered;
+          small = mask-small sender c t s mask answered;
+        }
+
+    -- and then each hart that receives has the command offered, and the queue of every other is as it was
+    pub send-queues : (j : ℕ) → j < harts t
+        → queue (performed (Send sender c) t .after) j ≡ pick (receives (t .home) sender c j) (offered (queue t j) c .queue) (queue t j)
+    send-queues j l =
+        rw (went-queues (Mask mask) p (no-mask TablesNotSound) (no-mask UnknownKind))
+        (by-test (receives (t .home) sender c j)
+        (λ r. yes _ r (delivered-row sender c t s j (all-below j l) r))
+        (λ r. no _ r (passed-row sender c t s j l r)))
+
+  -- the request gives 8: the hart that refuses is the first that receives and has 64 already
+  pub send-eight : performed (Send sender c) t .answer ≡ Refused ReachedMaxNumberOfRemoteCommands
+      → RefusedAt sender c t (performed (Send sender c) t .after .queues) (refuser sender c t)
+  send-eight p =
+      let eight : Answer = Refused ReachedMaxNumberOfRemoteCommands in
+      let not-12 : Refused TablesNotSound ≢ eight = λ q.
+      let z : _≡_ {A = ℕ} 12 8 = ap (λ (a : Answer). given a .number) q in
+      omega arith in
+      let not-19 : Refused UnknownKind ≢ eight = λ q.
+      let z : _≡_ {A = ℕ} 19 8 = ap (λ (a : Answer). given a .number) q in
+      omega arith in
+      rw (went-queues eight p not-12 not-19)
+      (refused-at sender c t (went-sound eight p not-12 not-19) ReachedMaxNumberOfRemoteCommands (went-answer eight p not-12 not-19))
+
+-- ---- the answer of a well-formed command over sound tables
+
+module _ (sender : ℕ) (c : ConfidentialHartRemoteCommand) (t : Tables) (s : sound t ≡ true) (w : wellFormed c ≡ true) where
+  answer-of : performed (Send sender c) t .answer ≡ broadcast sender c t .answer
+  answer-of = ap (λ (o : Outcome). o .answer) (send-known sender c t s w)
+
+  -- a mask where every hart that receives has room
+  pub send-accepted : ((j : ℕ) → j < harts t → receives (t .home) sender c j ≡ true → count (queue t j) < maxCommands)
+      → performed (Send sender c) t .answer ≡ Mask (interrupted (t .home) sender c (harts t) 0 0)
+  send-accepted room =
+      let none = none-of (refusesAt (t .home) sender c (t .queues)) (harts t) (λ j l.
+      by-test (receives (t .home) sender c j)
+      (λ r. room-refuses (t .home) sender c (t .queues) j (room j l r))
+      (λ r. passed-refuses (t .home) sender c (t .queues) j r)) in
+      answer-of ∙ answer-is sender c t s ∙ sym (no _ (sym (refuses-exactly sender c t s) ∙ none) refl)
+
+  -- 8 where some hart that receives has 64 already
+  pub send-full : (h : ℕ) → h < harts t → receives (t .home) sender c h ≡ true → maxCommands ≤ count (queue t h)
+      → performed (Send sender c) t .answer ≡ Refused ReachedMaxNumberOfRemoteCommands
+  send-full h l r full =
+      let one = some-of (refusesAt (t .home) sender c (t .queues)) h (harts t) l (full-refuses (t .home) sender c (t .queues) h r full) in
+      answer-of ∙ answer-is sender c t s ∙ sym (yes _ (sym (refuses-exactly sender c t s) ∙ one) refl)

@@ -1,4 +1,5 @@
 -- The laws of the definitions.
+pub mod JudgedLaws
 pub mod SoundLaws
 pub mod ChangeLaws
 pub mod MoveLaws

@@ -1,15 +1,15 @@
--- A steal, a return and a start keep tables sound, and a home row and a hardware row name each other or neither does. Assumes nothing.
+-- A steal, a return and a start keep tables sound. Assumes nothing.
 use Prim.Native.Nat.{ℕ, _+_, _*_, _≤_, _<_}
 use mathlib.Core.Path.{_≡_, refl, sym, ap, _∙_}
 use mathlib.Core.Logic.{_≢_}
-use mathlib.Core.Bool.{Bool, true, false, not, _&&_}
+use mathlib.Core.Bool.{true}
 use mathlib.Core.List.{List}
 use native.Mathlib.Omega.{arith}
 use lib.ListN.{length}
 use lib.Dec.{eqb}
-use borrow.Author.Tests.{eq-eqb, ne-eqb, eqb-true, eqb-false, leb-false, not-true, not-false}
+use borrow.Author.Tests.{eqb-true, eqb-false, leb-false, not-false}
 use Rattle.table_rows.specs.Rows.{row, put}
-use Rattle.table_rows.proofs.PickLaws.{by-pick, by-test, and-left, and-right, and-both, not-yes}
+use Rattle.table_rows.proofs.PickLaws.{by-test}
 use Rattle.table_rows.proofs.RowLaws.{within, row-length, put-length, row-put-same, row-put-other}
 use Rattle.hart_lifecycle_state.specs.Lifecycle.{start}
 use Rattle.hart_lifecycle_state.proofs.LifecycleLaws.{told}
@@ -17,7 +17,7 @@ use Rattle.error.specs.Error.{hartAlreadyRunning}
 use Rattle.confidential_hart.specs.declared.ConfidentialHart.{ConfidentialHart}
 use Rattle.confidential_hart.specs.declared.ConfidentialHartId.{ConfidentialHartId}
 use Rattle.confidential_hart.specs.declared.HardwareHartId.{HardwareHartId}
-use Rattle.confidential_hart.specs.Hart.{noVm, theVm, registerCount, isDummy, wellFormed}
+use Rattle.confidential_hart.specs.Hart.{noVm, theVm, registerCount, wellFormed}
 use Rattle.confidential_hart.specs.HartStart.{startRegisters}
 use Rattle.confidential_hart.specs.Transition.{afterStart}
 use Rattle.confidential_hart.proofs.HartLaws.{formed-facts}
@@ -27,7 +27,8 @@ use Rattle.hart_rows.specs.Rows.{hartWords, fromWords, toWords, hartAt}
 use Rattle.hart_rows.proofs.HartRowLaws.{to-length, load-store, load-store-other}
 use Rattle.monitor_requests.specs.declared.Request.the-variants.{Steal, Return, Start}
 use Rattle.monitor_requests.specs.Tables.{Tables, tables, harts, hardwareHarts, homeHart, hardwareHart, rowSound, homeRowSound, hardwareRowSound, sound, Sized}
-use Rattle.monitor_requests.specs.Requests.{Outcome, withHome, exchanged, tests, effect, performed}
+use Rattle.monitor_requests.specs.Requests.{withHome, exchanged, tests, effect, performed}
+use Rattle.monitor_requests.proofs.JudgedLaws.{effect-sound}
 use Rattle.monitor_requests.proofs.SoundLaws.{
   Names,
   row-formed,
@@ -37,7 +38,11 @@ use Rattle.monitor_requests.proofs.SoundLaws.{
   sound-names,
   Sound,
   sound-facts,
+  sound-sized,
   facts-sound,
+  home-formed,
+  hardware-formed,
+  held-names,
 }
 
 -- ---- a row, once rows changed
@@ -47,6 +52,7 @@ pub record Alike (x y : ConfidentialHart) : Type 0 where
   pub vm-same : y .vm ≡ x .vm
   pub id-same : y .id ≡ x .id
 
+-- equal records tie alike
 pub alike : {x y : ConfidentialHart} → y ≡ x → Alike x y
 alike e = record { vm-same = ap (λ (r : ConfidentialHart). r .vm) e; id-same = ap (λ (r : ConfidentialHart). r .id) e }
 
@@ -82,6 +88,7 @@ pub record Exchange (a b a′ b′ : List ℕ) (n m h k : ℕ) : Type 0 where
   pub a-others : (i : ℕ) → i < n → i ≢ h → hartAt a′ i ≡ hartAt a i
   pub b-others : (i : ℕ) → i < m → i ≢ k → hartAt b′ i ≡ hartAt b i
 
+-- the same exchange, said of the other table
 pub turned : {a b a′ b′ : List ℕ} {n m h k : ℕ} → Exchange a b a′ b′ n m h k → Exchange b a b′ a′ m n k h
 turned x =
     record {
@@ -137,10 +144,11 @@ module _ (own : ℕ) (a b a′ b′ : List ℕ) (n m h k : ℕ) (x : Exchange a 
 -- ---- the rows of sound tables
 
 module _ (t : Tables) (z : Sized t) (i : ℕ) where
-  -- a row lies within its table
+  -- a home row lies within its table
   pub home-fits : i < harts t → i * hartWords + hartWords ≤ length (t .home)
   home-fits l = omega (arith, within hartWords i (harts t) l, z .long .home-long)
 
+  -- so does a hardware row
   pub hardware-fits : i < hardwareHarts t → i * hartWords + hartWords ≤ length (t .hardware)
   hardware-fits l = omega (arith, within hartWords i (hardwareHarts t) l, z .long .hardware-long)
 
@@ -175,8 +183,11 @@ rows-sound t f home hardware e d at-home on-hardware =
 
 -- ---- the exchange of home row h and hardware row k
 
-module _ (t : Tables) (f : Sound t) (h k : ℕ) (lh : h < harts t) (lk : k < hardwareHarts t) where
-  z : Sized t
+module _ (t : Tables) (s : sound t ≡ true) (h k : ℕ) (lh : h < harts t) (lk : k < hardwareHarts t) where
+  abbrev f : Sound t
+  f = sound-facts t s
+
+  abbrev z : Sized t
   z = f .sized
 
   home-row-long : length (row hartWords (t .home) h) ≡ hartWords
@@ -185,6 +196,7 @@ module _ (t : Tables) (f : Sound t) (h k : ℕ) (lh : h < harts t) (lk : k < har
   hardware-row-long : length (row hartWords (t .hardware) k) ≡ hartWords
   hardware-row-long = row-length hartWords (t .hardware) k (hardware-fits t z k lk)
 
+  -- the rows of the tables are exchanged so
   pub exchange : Exchange (t .home) (t .hardware) (exchanged h k t .home) (exchanged h k t .hardware) (harts t) (hardwareHarts t) h k
   unfolding hartAt
   exchange =
@@ -201,17 +213,13 @@ module _ (t : Tables) (f : Sound t) (h k : ℕ) (lh : h < harts t) (lk : k < har
             (row-put-other hartWords (t .hardware) k (hardware-fits t z k lk) (row hartWords (t .home) h) home-row-long i ne (hardware-fits t z i l));
       }
 
-  home-long : length (exchanged h k t .home) ≡ length (t .home)
+  -- the home rows are as long as before
+  pub home-long : length (exchanged h k t .home) ≡ length (t .home)
   home-long = put-length hartWords (t .home) h (home-fits t z h lh) (row hartWords (t .hardware) k) hardware-row-long
 
-  hardware-long : length (exchanged h k t .hardware) ≡ length (t .hardware)
+  -- so are the hardware rows
+  pub hardware-long : length (exchanged h k t .hardware) ≡ length (t .hardware)
   hardware-long = put-length hartWords (t .hardware) k (hardware-fits t z k lk) (row hartWords (t .home) h) home-row-long
-
-  home-formed : wellFormed (homeHart t h) ≡ true
-  home-formed = row-formed theVm (t .home) (t .hardware) (hardwareHarts t) h (f .home-row h lh)
-
-  hardware-formed : wellFormed (hardwareHart t k) ≡ true
-  hardware-formed = row-formed noVm (t .hardware) (t .home) (harts t) k (f .hardware-row k lk)
 
   -- the tables are sound where the two rows are, and where no other row names them
   both-sound : (hardwareHart t k .vm ≡ theVm → hardwareHart t k .id ≡ h) → (homeHart t h .vm ≡ noVm → homeHart t h .id ≡ k)
@@ -222,13 +230,13 @@ module _ (t : Tables) (f : Sound t) (h k : ℕ) (lh : h < harts t) (lk : k < har
       rows-sound t f (exchanged h k t .home) (exchanged h k t .hardware) home-long hardware-long
       (rows-kept theVm (t .home) (t .hardware) (exchanged h k t .home) (exchanged h k t .hardware) (harts t) (hardwareHarts t) h k
       exchange
-      hardware-formed
+      (hardware-formed t s k lk)
       only-h
       (f .home-row)
       here-h)
       (rows-kept noVm (t .hardware) (t .home) (exchanged h k t .hardware) (exchanged h k t .home) (hardwareHarts t) (harts t) k h
       (turned exchange)
-      home-formed
+      (home-formed t s h lh)
       only-k
       (f .hardware-row)
       here-k)
@@ -236,20 +244,20 @@ module _ (t : Tables) (f : Sound t) (h k : ℕ) (lh : h < harts t) (lk : k < har
   -- a real hart at home and a dummy: they leave their rows
   pub left-sound : homeHart t h .vm ≢ noVm → hardwareHart t k .vm ≡ noVm → sound (exchanged h k t) ≡ true
   left-sound real idle =
-      let one : homeHart t h .vm ≡ theVm = omega (arith, formed-facts (homeHart t h) home-formed .vm-known) in
+      let one : homeHart t h .vm ≡ theVm = omega (arith, formed-facts (homeHart t h) (home-formed t s h lh) .vm-known) in
       let ih : homeHart t h .id ≡ h = row-own theVm (t .home) (t .hardware) (hardwareHarts t) h (f .home-row h lh) one in
       let ik : hardwareHart t k .id ≡ k = row-own noVm (t .hardware) (t .home) (harts t) k (f .hardware-row k lk) idle in
       both-sound (λ e. absurd (omega arith)) (λ e. absurd (real e))
       (row-left theVm (t .home) (t .hardware) (exchanged h k t .home) (exchanged h k t .hardware) (harts t) (hardwareHarts t) h k
       exchange
-      hardware-formed
+      (hardware-formed t s k lk)
       one
       ih
       (λ e. absurd (omega arith))
       ik)
       (row-left noVm (t .hardware) (t .home) (exchanged h k t .hardware) (exchanged h k t .home) (hardwareHarts t) (harts t) k h
       (turned exchange)
-      home-formed
+      (home-formed t s h lh)
       idle
       ik
       real
@@ -259,25 +267,25 @@ module _ (t : Tables) (f : Sound t) (h k : ℕ) (lh : h < harts t) (lk : k < har
   pub back-sound : hardwareHart t k .vm ≢ noVm → hardwareHart t k .id ≡ h → homeHart t h .vm ≡ noVm → homeHart t h .id ≡ k
       → sound (exchanged h k t) ≡ true
   back-sound real ih idle ik =
-      let one : hardwareHart t k .vm ≡ theVm = omega (arith, formed-facts (hardwareHart t k) hardware-formed .vm-known) in
+      let one : hardwareHart t k .vm ≡ theVm = omega (arith, formed-facts (hardwareHart t k) (hardware-formed t s k lk) .vm-known) in
       both-sound (λ e. ih) (λ e. ik)
       (row-back theVm (t .home) (t .hardware) (exchanged h k t .home) (exchanged h k t .hardware) (harts t) (hardwareHarts t) h k
       exchange
-      hardware-formed
+      (hardware-formed t s k lk)
       one
       ih)
       (row-back noVm (t .hardware) (t .home) (exchanged h k t .hardware) (exchanged h k t .home) (hardwareHarts t) (harts t) k h
       (turned exchange)
-      home-formed
+      (home-formed t s h lh)
       idle
       ik)
 
 -- ---- a record of a home row written anew
 
-module _ (t : Tables) (f : Sound t) (h : ℕ) (lh : h < harts t) (y : ConfidentialHart) (six : length (y .registers) ≡ registerCount)
+module _ (t : Tables) (s : sound t ≡ true) (h : ℕ) (lh : h < harts t) (y : ConfidentialHart) (six : length (y .registers) ≡ registerCount)
     (w : wellFormed y ≡ true) (same : Alike (homeHart t h) y) where
   fits : (i : ℕ) → i < harts t → i * hartWords + hartWords ≤ length (t .home)
-  fits i l = home-fits t (f .sized) i l
+  fits i l = home-fits t (sound-sized t s) i l
 
   abbrev home′ : List ℕ
   home′ = put hartWords (t .home) h (toWords y)
@@ -293,24 +301,24 @@ module _ (t : Tables) (f : Sound t) (h : ℕ) (lh : h < harts t) (y : Confidenti
       by-test (eqb i h)
       (λ e. rw (eqb-true i h e, load-store (t .home) h (fits h lh) y six) w)
       (λ e.
-      rw (load-store-other (t .home) h (fits h lh) y i (eqb-false i h e) (fits i l))
-      (row-formed theVm (t .home) (t .hardware) (hardwareHarts t) i (f .home-row i l)))
+      rw (load-store-other (t .home) h (fits h lh) y i (eqb-false i h e) (fits i l)) (home-formed t s i l))
 
   -- the tables stay sound where the new record is well formed and ties as the old one
   pub home-written-sound : sound (withHome home′ t) ≡ true
   home-written-sound =
+      let f = sound-facts t s in
       rows-sound t f home′ (t .hardware) (put-length hartWords (t .home) h (fits h lh) (toWords y) (to-length y)) refl
       (λ i l.
       row-kept theVm (t .home) (t .hardware) home′ (t .hardware) (hardwareHarts t) i (f .home-row i l) (homes-formed i l) (home-alike i l)
       (λ r. alike refl))
       (λ k l.
       row-kept noVm (t .hardware) (t .home) (t .hardware) home′ (harts t) k (f .hardware-row k l)
-      (row-formed noVm (t .hardware) (t .home) (harts t) k (f .hardware-row k l))
+      (hardware-formed t s k l)
       (alike refl)
       (λ r. home-alike (hardwareHart t k .id) (r .there)))
 
 -- a start: the record keeps its VM and its number, and stays well formed
-module _ (t : Tables) (f : Sound t) (h : ℕ) (lh : h < harts t) (address opaque : ℕ) where
+module _ (t : Tables) (s : sound t ≡ true) (h : ℕ) (lh : h < harts t) (address opaque : ℕ) where
   abbrev before : ConfidentialHart
   before = homeHart t h
 
@@ -324,86 +332,36 @@ module _ (t : Tables) (f : Sound t) (h : ℕ) (lh : h < harts t) (address opaque
   started-sound : sound (withHome (put hartWords (t .home) h (toWords (afterStart address opaque before .hart))) t) ≡ true
   started-sound =
       let kept = transition-keeps start hartAlreadyRunning before registers in
-      home-written-sound t f h lh (afterStart address opaque before .hart)
+      home-written-sound t s h lh (afterStart address opaque before .hart)
       (transition-length start hartAlreadyRunning before registers
       (start-started (before .registers) six-before (before .id) address opaque .as-many)
       ∙ six-before)
-      (transition-formed start hartAlreadyRunning before (told 0 (before .lifecycle)) registers
-      (row-formed theVm (t .home) (t .hardware) (hardwareHarts t) h (f .home-row h lh)))
+      (transition-formed start hartAlreadyRunning before (told 0 (before .lifecycle)) registers (home-formed t s h lh))
       (record { vm-same = kept .vm-kept; id-same = kept .id-kept })
 
 -- ---- the requests
 
--- the tables are sound afterwards
-abbrev Keeps : Outcome → Type 0
-Keeps o = sound (o .after) ≡ true
-
+-- a steal leaves sound tables sound
 pub steal-sound : (hart : ConfidentialHartId) (on : HardwareHartId) (t : Tables) → sound t ≡ true
     → sound (performed (Steal hart on) t .after) ≡ true
-unfolding performed tests effect
+unfolding tests effect
 steal-sound hart on t s =
-    by-pick Keeps _ _ _ (λ _. s)
-    (λ _. by-pick Keeps _ _ _ (λ _. s)
-    (λ lk. by-pick Keeps _ _ _ (λ _. s)
-    (λ idle. by-pick Keeps _ _ _ (λ _. s)
-    (λ lh. by-pick Keeps _ _ _ (λ _. s)
-    (λ real. by-pick Keeps _ _ _ (λ _. s)
-    (λ _.
-    left-sound t (sound-facts t s) (hart .0) (on .0) (leb-false _ _ lh) (leb-false _ _ lk) (eqb-false _ _ real)
-    (eqb-true _ _ (not-false _ idle))))))))
+    effect-sound (Steal hart on) t s (λ p.
+    left-sound t s (hart .0) (on .0) (leb-false _ _ (p .1 .1 .1 .0)) (leb-false _ _ (p .1 .0)) (eqb-false _ _ (p .1 .1 .1 .1 .0))
+    (eqb-true _ _ (not-false _ (p .1 .1 .0))))
 
+-- a return leaves them sound
 pub return-sound : (on : HardwareHartId) (t : Tables) → sound t ≡ true → sound (performed (Return on) t .after) ≡ true
-unfolding performed tests effect
+unfolding tests effect
 return-sound on t s =
-    by-pick Keeps _ _ _ (λ _. s)
-    (λ _. by-pick Keeps _ _ _ (λ _. s)
-    (λ lk. by-pick Keeps _ _ _ (λ _. s)
-    (λ busy.
-    let f = sound-facts t s in
-    let k = on .0 in
-    let l : k < hardwareHarts t = leb-false _ _ lk in
-    let real : hardwareHart t k .vm ≢ noVm = eqb-false _ _ busy in
-    let n = row-names noVm (t .hardware) (t .home) (harts t) k (f .hardware-row k l) real in
-    back-sound t f (hardwareHart t k .id) k (n .there) l real refl (n .held) (n .back))))
+    effect-sound (Return on) t s (λ p.
+    let l = leb-false _ _ (p .1 .0) in
+    let n = held-names t s (on .0) l (p .1 .1 .0) in
+    back-sound t s (hardwareHart t (on .0) .id) (on .0) (n .there) l (eqb-false _ _ (p .1 .1 .0)) refl (n .held) (n .back))
 
+-- a start leaves them sound
 pub start-sound : (hart : ConfidentialHartId) (address opaque : ℕ) (t : Tables) → sound t ≡ true
     → sound (performed (Start hart address opaque) t .after) ≡ true
-unfolding performed tests effect
+unfolding tests effect
 start-sound hart address opaque t s =
-    by-pick Keeps _ _ _ (λ _. s)
-    (λ _. by-pick Keeps _ _ _ (λ _. s)
-    (λ lh. by-pick Keeps _ _ _ (λ _. s)
-    (λ _. by-pick Keeps _ _ _ (λ _. s)
-    (λ _. started-sound t (sound-facts t s) (hart .0) (leb-false _ _ lh) address opaque))))
-
--- ---- home row h holds dummy k exactly when hardware row k holds real hart h
-
-both-ways : (a b : Bool) → (a ≡ true → b ≡ true) → (b ≡ true → a ≡ true) → a ≡ b
-both-ways true b f g = sym (f refl)
-both-ways false true f g = g refl
-both-ways false false f g = refl
-
-pub exactly-when : (t : Tables) → sound t ≡ true → (h k : ℕ) → h < harts t → k < hardwareHarts t
-    → isDummy (homeHart t h) && eqb (homeHart t h .id) k ≡ not (isDummy (hardwareHart t k)) && eqb (hardwareHart t k .id) h
-exactly-when t s h k lh lk =
-    let f = sound-facts t s in
-    let dummy : Bool = isDummy (homeHart t h) in
-    let named : Bool = eqb (homeHart t h .id) k in
-    let real : Bool = not (isDummy (hardwareHart t k)) in
-    let holds : Bool = eqb (hardwareHart t k .id) h in
-    both-ways (dummy && named) (real && holds)
-    (λ e.
-    let d : homeHart t h .vm ≡ noVm = eqb-true _ _ (and-left dummy named e) in
-    let i : homeHart t h .id ≡ k = eqb-true _ _ (and-right dummy named e) in
-    let n = row-names theVm (t .home) (t .hardware) (hardwareHarts t) h (f .home-row h lh) (λ q. absurd (omega arith)) in
-    let v : hardwareHart t k .vm ≡ theVm = rw i at (n .held) in
-    let j : hardwareHart t k .id ≡ h = rw i at (n .back) in
-    let r : hardwareHart t k .vm ≢ noVm = λ q. absurd (omega arith) in
-    and-both (not-yes _ (ne-eqb _ _ r)) (eq-eqb _ _ j))
-    (λ e.
-    let r : hardwareHart t k .vm ≢ noVm = eqb-false _ _ (not-true _ (and-left real holds e)) in
-    let i : hardwareHart t k .id ≡ h = eqb-true _ _ (and-right real holds e) in
-    let n = row-names noVm (t .hardware) (t .home) (harts t) k (f .hardware-row k lk) r in
-    let v : homeHart t h .vm ≡ noVm = rw i at (n .held) in
-    let j : homeHart t h .id ≡ k = rw i at (n .back) in
-    and-both (eq-eqb _ _ v) (eq-eqb _ _ j))
+    effect-sound (Start hart address opaque) t s (λ p. started-sound t s (hart .0) (leb-false _ _ (p .1 .0)) address opaque)

@@ -9,7 +9,7 @@ use lib.ListN.{length, getD, set, length-set, length-append}
 use lib.Seq.{getD-set-same, getD-set-other}
 use borrow.Author.Tests.{le-leb, leb-false}
 use Rattle.table_rows.specs.Lists.{allOf}
-use Rattle.table_rows.proofs.PickLaws.{by-pick, and-both}
+use Rattle.table_rows.proofs.PickLaws.{and-both}
 use Rattle.table_rows.proofs.ListLaws.{all-last}
 use Rattle.confidential_hart.specs.Hart.{noVm, theVm}
 use Rattle.confidential_vm_mmio_region.specs.declared.ConfidentialVmMmioRegion.{ConfidentialVmMmioRegion}
@@ -21,12 +21,14 @@ use Rattle.mmio_regions.proofs.TableLaws.{standing-length}
 use Rattle.mmio_regions.proofs.SoundLaws as regions
 use Rattle.monitor_requests.specs.declared.Request.the-variants.{Allow, Add, Remove}
 use Rattle.monitor_requests.specs.Tables.{Tables, tables, hartsWord, hardwareWord, allowedWord, regionsWord, harts, hardwareHarts, allowed, regionCount, regionsOf, rowSound, sound}
-use Rattle.monitor_requests.specs.Requests.{Outcome, regionFrom, withRegions, tests, effect, performed}
+use Rattle.monitor_requests.specs.Requests.{regionFrom, withRegions, tests, effect, performed}
+use Rattle.monitor_requests.proofs.JudgedLaws.{effect-sound}
 use Rattle.monitor_requests.proofs.SoundLaws.{Sound, sound-facts, facts-sound}
 
 -- ---- another head, with the counts as they were, and other regions
 
 module _ (t : Tables) (f : Sound t) (head places : List ℕ) (same-length : length head ≡ length (t .head)) where
+  -- the tables are sound where the new regions are
   pub head-sound : getD head hartsWord 0 ≡ harts t → getD head hardwareWord 0 ≡ hardwareHarts t
       → regionsSound places (getD head regionsWord 0) ≡ true
       → sound (tables head (t .home) (t .hardware) (t .queues) places) ≡ true
@@ -60,6 +62,7 @@ module _ (t : Tables) (s : sound t ≡ true) where
   abbrev facts : Sound t
   facts = sound-facts t s
 
+  -- ordered regions, at most 1,024, leave the tables sound
   pub laid-tables-sound : (rs : List ConfidentialVmMmioRegion) → length rs ≤ maxRegions → allOf ordered rs ≡ true → sound (withRegions rs t) ≡ true
   laid-tables-sound rs few o =
       let head : List ℕ = set (t .head) regionsWord (length rs) in
@@ -76,36 +79,29 @@ module _ (t : Tables) (s : sound t ≡ true) where
 
 -- ---- the requests
 
-abbrev Keeps : Outcome → Type 0
-Keeps o = sound (o .after) ≡ true
-
+-- adding a region leaves sound tables sound
 pub add-sound : (base size : ℕ) (t : Tables) → sound t ≡ true → sound (performed (Add base size) t .after) ≡ true
-unfolding performed tests effect
+unfolding tests effect
 add-sound base size t s =
-    by-pick Keeps _ _ _ (λ _. s)
-    (λ _. by-pick Keeps _ _ _ (λ _. s)
-    (λ _. by-pick Keeps _ _ _ (λ _. s)
-    (λ room. by-pick Keeps _ _ _ (λ _. s)
-    (λ _.
-    let l : length (regionsOf t) < maxRegions = leb-false _ _ room in
+    effect-sound (Add base size) t s (λ p.
+    let l : length (regionsOf t) < maxRegions = leb-false _ _ (p .1 .1 .0) in
     laid-tables-sound t s (regionsOf t ++ (regionFrom base size ∷ [])) (simp length-append (omega arith))
-    (all-last ordered (regionFrom base size) (regionsOf t) ∙ and-both (upright t s) (le-leb base (base + size) (omega arith)))))))
+    (all-last ordered (regionFrom base size) (regionsOf t) ∙ and-both (upright t s) (le-leb base (base + size) (omega arith))))
 
+-- removing regions leaves them sound
 pub remove-sound : (base size : ℕ) (t : Tables) → sound t ≡ true → sound (performed (Remove base size) t .after) ≡ true
-unfolding performed tests effect
+unfolding effect
 remove-sound base size t s =
-    by-pick Keeps _ _ _ (λ _. s)
-    (λ _. by-pick Keeps _ _ _ (λ _. s)
-    (λ _.
+    effect-sound (Remove base size) t s (λ _.
     laid-tables-sound t s (withRemoved (regionFrom base size) (regionsOf t))
     (omega (arith, removed-few (regionFrom base size) (regionsOf t), standing-length (t .regions) (regionCount t), facts t s .sized .few-regions))
-    (removed-ordered (regionFrom base size) (regionsOf t) (upright t s))))
+    (removed-ordered (regionFrom base size) (regionsOf t) (upright t s)))
 
+-- allowing interrupts leaves them sound
 pub allow-sound : (bits : ℕ) (t : Tables) → sound t ≡ true → sound (performed (Allow bits) t .after) ≡ true
-unfolding performed tests effect
+unfolding effect
 allow-sound bits t s =
-    by-pick Keeps _ _ _ (λ _. s)
-    (λ _.
+    effect-sound (Allow bits) t s (λ _.
     let mask : ℕ = bitOr (allowed t) bits in
     head-sound t (facts t s) (set (t .head) allowedWord mask) (t .regions) (length-set (t .head) allowedWord mask)
     (getD-set-other (t .head) allowedWord hartsWord mask 0 (λ e. omega arith))

@@ -3,8 +3,8 @@
 use Prim.Native.Nat.{ℕ, _<_, _≤_}
 use mathlib.Core.Path.{_≡_, refl, sym, ap, _∙_}
 use mathlib.Core.Logic.{_≢_, _↔_}
-use mathlib.Core.Bool.{Bool, true, false, not, false≢true}
-use mathlib.Core.List.{List, [], _∷_}
+use mathlib.Core.Bool.{true, false, not, false≢true}
+use mathlib.Core.List.{List, []}
 use native.Mathlib.Omega.{arith}
 use lib.ListN.{length, set, length-set, length-append}
 use lib.Dec.{eqb}
@@ -14,8 +14,8 @@ use Rattle.error.specs.declared.Error.the-variants.{ReachedMaxNumberOfRemoteCom
 use Rattle.error.specs.Error.{numberOf, tablesNotSound}
 use Rattle.table_rows.specs.Rows.{put}
 use Rattle.table_rows.specs.Lists.{allOf}
-use Rattle.table_rows.proofs.PickLaws.{yes, no, by-pick, by-test, and-left, and-right, not-yes, not-no}
-use Rattle.table_rows.proofs.RowLaws.{row-length, put-length}
+use Rattle.table_rows.proofs.PickLaws.{by-test}
+use Rattle.table_rows.proofs.RowLaws.{put-length}
 use Rattle.confidential_vm_mmio_region.specs.declared.ConfidentialVmMmioRegion.{ConfidentialVmMmioRegion}
 use Rattle.mmio_regions.specs.Regions.{maxRegions}
 use Rattle.mmio_regions.proofs.RegionLaws.{removed-few}
@@ -61,7 +61,6 @@ use Rattle.monitor_requests.specs.Requests.{
   outcome,
   Test,
   judged,
-  unsound,
   regionFrom,
   tests,
   withHead,
@@ -74,8 +73,21 @@ use Rattle.monitor_requests.specs.Requests.{
   effect,
   performed,
 }
+use Rattle.monitor_requests.proofs.JudgedLaws.{
+  Passed,
+  by-errors,
+  judged-passed,
+  by-performed,
+  effect-sound,
+  notTwelve,
+  isSetup,
+  later,
+  twelve-first,
+  unsound-refused,
+  sound-judged,
+}
 use Rattle.monitor_requests.proofs.SoundLaws.{sound-sized, held-names}
-use Rattle.monitor_requests.proofs.MoveLaws.{home-fits, hardware-fits, steal-sound, return-sound, start-sound}
+use Rattle.monitor_requests.proofs.MoveLaws.{home-fits, home-long, hardware-long, steal-sound, return-sound, start-sound}
 use Rattle.monitor_requests.proofs.SetupLaws.{
   Accepted,
   accepted,
@@ -89,61 +101,27 @@ use Rattle.monitor_requests.proofs.SetupLaws.{
 use Rattle.monitor_requests.proofs.RegionLaws.{add-sound, remove-sound, allow-sound}
 use Rattle.monitor_requests.proofs.BroadcastLaws.{by-turns, broadcast-length, send-sound}
 
--- ---- tests in order
-
--- none of the tests holds
-abbrev pub Passed : List Test → Type 0
-Passed [] = Unit
-Passed (x ∷ xs) = (x .when ≡ false) × Passed xs
-
-module _ (t : Tables) (next : Outcome) where
-  -- what holds of each refusal by one of these errors, and of what follows where no test holds, holds of the outcome
-  pub by-errors : (P : Outcome → Type 0) (known : Error → Bool) → ((e : Error) → known e ≡ true → P (outcome (Refused e) t)) → (xs : List Test)
-      → allOf (λ x. known (x .error)) xs ≡ true → (Passed xs → P next) → P (judged xs t next)
-  unfolding allOf
-  by-errors P known refusal [] k passed = passed tt
-  by-errors P known refusal (x ∷ xs) k passed =
-      by-pick P (x .when) _ _ (λ _. refusal (x .error) (and-left (known (x .error)) _ k))
-      (λ w. by-errors P known refusal xs (and-right (known (x .error)) _ k) (λ p. passed (w, p)))
-
-  all-known : (xs : List Test) → allOf (λ (x : Test). true) xs ≡ true
-  unfolding allOf
-  all-known [] = refl
-  all-known (x ∷ xs) = all-known xs
-
-  -- the same, for refusals by any error
-  pub by-tests : (P : Outcome → Type 0) (xs : List Test) → ((e : Error) → P (outcome (Refused e) t)) → (Passed xs → P next) → P (judged xs t next)
-  by-tests P xs refusal passed = by-errors P (λ _. true) (λ e _. refusal e) xs (all-known xs) passed
-
-  pub judged-passed : (xs : List Test) → Passed xs → judged xs t next ≡ next
-  judged-passed [] p = refl
-  judged-passed (x ∷ xs) p = sym (no _ (p .0) (sym (judged-passed xs (p .1))))
-
 -- ---- sound tables stay sound
-
-abbrev Keeps : Outcome → Type 0
-Keeps o = sound (o .after) ≡ true
 
 -- a setup that passes its tests is accepted
 passed-accepted : (s : declared.Setup) (t : Tables) → Passed (tests (Setup s) t) → Accepted s t
 unfolding performed effect
 passed-accepted s t p = accepted s t (ap (λ (o : Outcome). o .answer) (judged-passed t (effect (Setup s) t) (tests (Setup s) t) p))
 
+-- every request leaves sound tables sound
 pub performed-sound : (r : Request) (t : Tables) → sound t ≡ true → sound (performed r t .after) ≡ true
-unfolding performed tests effect
-performed-sound (Setup s) t f =
-    by-tests t (effect (Setup s) t) Keeps (tests (Setup s) t) (λ _. f)
-    (λ p. fresh-sound s t (passed-accepted s t p))
+unfolding effect
+performed-sound (Setup s) t f = effect-sound (Setup s) t f (λ p. fresh-sound s t (passed-accepted s t p))
 performed-sound (Steal hart on) t f = steal-sound hart on t f
 performed-sound (Return on) t f = return-sound on t f
 performed-sound (Start hart address opaque) t f = start-sound hart address opaque t f
-performed-sound (Status hart) t f = by-tests t (effect (Status hart) t) Keeps (tests (Status hart) t) (λ _. f) (λ _. f)
-performed-sound Home t f = by-tests t (effect Home t) Keeps (tests Home t) (λ _. f) (λ _. f)
+performed-sound (Status hart) t f = effect-sound (Status hart) t f (λ _. f)
+performed-sound Home t f = effect-sound Home t f (λ _. f)
 performed-sound (Send sender c) t f = send-sound sender c t f
 performed-sound (Allow bits) t f = allow-sound bits t f
 performed-sound (Add base size) t f = add-sound base size t f
 performed-sound (Remove base size) t f = remove-sound base size t f
-performed-sound (Defined base size) t f = by-tests t (effect (Defined base size) t) Keeps (tests (Defined base size) t) (λ _. f) (λ _. f)
+performed-sound (Defined base size) t f = effect-sound (Defined base size) t f (λ _. f)
 
 -- ---- refusals
 
@@ -182,9 +160,8 @@ effect-refusal r t e p = rw p at (effect-answers r t)
 module _ (r : Request) (t : Tables) (e : Error) (p : performed r t .answer ≡ Refused e) where
   -- a refusal other than 8 changes nothing, of any tables
   pub refusal-alone : e ≢ ReachedMaxNumberOfRemoteCommands → performed r t .after ≡ t
-  unfolding performed
   refusal-alone other =
-      by-tests t (effect r t) (λ (o : Outcome). o .answer ≡ Refused e → o .after ≡ t) (tests r t) (λ _ _. refl)
+      by-performed r t (λ (o : Outcome). o .answer ≡ Refused e → o .after ≡ t) (λ _ _. refl)
       (λ _ q. absurd (other (effect-refusal r t e q)))
       p
 
@@ -196,11 +173,11 @@ module _ (r : Request) (t : Tables) (e : Error) (p : performed r t .answer ≡ R
 pub one-outcome : (r : Request) (t : Tables) (o o′ : Outcome) → o ≡ performed r t → o′ ≡ performed r t → o ≡ o′
 one-outcome r t o o′ p q = p ∙ sym q
 
--- ---- 12
+-- what a promise says of the answer: its number and values are those of the request
+pub promised-given : (q : Request) (t : Tables) {t′ : Tables} {r : Answer} → outcome r t′ ≡ performed q t → given r ≡ given (performed q t .answer)
+promised-given q t p = ap (λ (o : Outcome). given (o .answer)) p
 
--- the error is not 12
-abbrev notTwelve : Error → Bool
-notTwelve e = not (eqb (numberOf e) tablesNotSound)
+-- ---- 12
 
 -- tests that give no 12, then any effect
 none-twelve : (r : Request) (t : Tables) (xs : List Test) → allOf (λ x. notTwelve (x .error)) xs ≡ true
@@ -214,66 +191,22 @@ none-twelve r t xs k =
     let z : _≡_ {A = ℕ} 12 8 = ap numberOf (effect-refusal r t TablesNotSound p) in
     absurd (omega arith))
 
+-- a setup never gives 12
 pub twelve-never-for-setup : (s : declared.Setup) (t : Tables) → performed (Setup s) t .answer ≢ Refused TablesNotSound
 unfolding performed tests allOf
 twelve-never-for-setup s t = none-twelve (Setup s) t (tests (Setup s) t) refl
 
-abbrev pub isSetup : Request → Bool
-isSetup (Setup s) = true
-isSetup (Steal hart on) = false
-isSetup (Return on) = false
-isSetup (Start hart address opaque) = false
-isSetup (Status hart) = false
-isSetup Home = false
-isSetup (Send sender c) = false
-isSetup (Allow bits) = false
-isSetup (Add base size) = false
-isSetup (Remove base size) = false
-isSetup (Defined base size) = false
-
--- the tests after the first
-abbrev later : List Test → List Test
-later [] = []
-later (x ∷ xs) = xs
-
--- every request but a setup tests for 12 first, and never again
-record First (r : Request) (t : Tables) : Type 0 where
-  first : tests r t ≡ unsound t ∷ later (tests r t)
-  others : allOf (λ x. notTwelve (x .error)) (later (tests r t)) ≡ true
-
-first-test : (r : Request) (t : Tables) → isSetup r ≡ false → First r t
-unfolding tests allOf
-first-test (Setup s) t e = absurd (false≢true (sym e))
-first-test (Steal hart on) t e = record { first = refl; others = refl }
-first-test (Return on) t e = record { first = refl; others = refl }
-first-test (Start hart address opaque) t e = record { first = refl; others = refl }
-first-test (Status hart) t e = record { first = refl; others = refl }
-first-test Home t e = record { first = refl; others = refl }
-first-test (Send sender c) t e = record { first = refl; others = refl }
-first-test (Allow bits) t e = record { first = refl; others = refl }
-first-test (Add base size) t e = record { first = refl; others = refl }
-first-test (Remove base size) t e = record { first = refl; others = refl }
-first-test (Defined base size) t e = record { first = refl; others = refl }
-
 module _ (r : Request) (t : Tables) (other : isSetup r ≡ false) where
-  split : performed r t ≡ judged (unsound t ∷ later (tests r t)) t (effect r t)
-  unfolding performed
-  split = ap (λ (xs : List Test). judged xs t (effect r t)) (first-test r t other .first)
-
-  -- 12 is given, and nothing changes
-  pub unsound-refused : sound t ≡ false → performed r t ≡ outcome (Refused TablesNotSound) t
-  unsound-refused s = split ∙ sym (yes _ (not-yes _ s) refl)
-
   sound-otherwise : sound t ≡ true → performed r t .answer ≢ Refused TablesNotSound
   sound-otherwise s p =
-      none-twelve r t (later (tests r t)) (first-test r t other .others)
-      (ap (λ (o : Outcome). o .answer) (no _ (not-no _ s) refl ∙ sym split) ∙ p)
+      none-twelve r t (later (tests r t)) (twelve-first r t other .others)
+      (sym (ap (λ (o : Outcome). o .answer) (sound-judged r t other s)) ∙ p)
 
   -- every request but a setup gives 12 exactly when the tables are not sound
   pub twelve-exactly : (performed r t .answer ≡ Refused TablesNotSound) ↔ (sound t ≡ false)
   twelve-exactly = (
     λ p. by-test (sound t) (λ s. absurd (sound-otherwise s p)) (λ s. s),
-    λ s. ap (λ (o : Outcome). o .answer) (unsound-refused s),
+    λ s. ap (λ (o : Outcome). o .answer) (unsound-refused r t other s),
   )
 
 -- ---- what each request leaves of sound tables
@@ -295,9 +228,9 @@ pub record Cases (t : Tables) (P : Request → Tables → Type 0) : Type 0 where
 
 module _ (t : Tables) (s : sound t ≡ true) (P : Request → Tables → Type 0) (c : Cases t P) where
   either : (r : Request) → (Passed (tests r t) → P r (effect r t .after)) → P r (performed r t .after)
-  unfolding performed
-  either r passed = by-tests t (effect r t) (λ (o : Outcome). P r (o .after)) (tests r t) (λ _. c .unchanged r) passed
+  either r passed = by-performed r t (λ (o : Outcome). P r (o .after)) (λ _. c .unchanged r) passed
 
+  -- what holds in each of these cases holds of every request
   pub by-request : (r : Request) → P r (performed r t .after)
   unfolding tests effect
   by-request (Setup x) = either (Setup x) (λ p. c .setup x (passed-accepted x t p))
@@ -347,9 +280,9 @@ fresh-lengths s t a =
 
 -- a setup keeps the lengths of any tables
 pub setup-lengths : (s : declared.Setup) (t : Tables) → SameLengths t (performed (Setup s) t .after)
-unfolding performed tests effect
+unfolding effect
 setup-lengths s t =
-    by-tests t (effect (Setup s) t) (λ (o : Outcome). SameLengths t (o .after)) (tests (Setup s) t) (λ _. same-lengths t)
+    by-performed (Setup s) t (λ (o : Outcome). SameLengths t (o .after)) (λ _. same-lengths t)
     (λ p. fresh-lengths s t (passed-accepted s t p))
 
 module _ (t : Tables) (s : sound t ≡ true) where
@@ -358,12 +291,10 @@ module _ (t : Tables) (s : sound t ≡ true) where
 
   exchanged-lengths : (h k : ℕ) → h < harts t → k < hardwareHarts t → SameLengths t (exchanged h k t)
   exchanged-lengths h k lh lk =
-      let f = home-fits t z h lh in
-      let g = hardware-fits t z k lk in
       record {
         head-same = refl;
-        home-same = put-length hartWords (t .home) h f _ (row-length hartWords (t .hardware) k g);
-        hardware-same = put-length hartWords (t .hardware) k g _ (row-length hartWords (t .home) h f);
+        home-same = home-long t s h k lh lk;
+        hardware-same = hardware-long t s h k lh lk;
         queues-same = refl;
         regions-same = refl;
       }

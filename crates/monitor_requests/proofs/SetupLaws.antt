@@ -59,6 +59,7 @@ use Rattle.monitor_requests.proofs.SoundLaws.{
 not-done : (e : Error) → Refused e ≡ Done → ⊥
 not-done e p = let z : _≡_ {A = ℕ} 0 1 = cc in omega arith
 
+-- what an accepted setup tells: counts in range, a boot hart that is there, tables long enough, and the outcome
 pub record Accepted (s : declared.Setup) (t : Tables) : Type 0 where
   pub ranged : countsInRange (s .harts) (s .hardware) ≡ true
   pub boots : s .boot < s .harts
@@ -75,6 +76,7 @@ module _ (s : declared.Setup) (t : Tables) where
   abbrev roomy : Bool
   roomy = longEnough t (s .harts) (s .hardware)
 
+  -- a setup that answers done is accepted
   pub accepted : performed (Setup s) t .answer ≡ Done → Accepted s t
   unfolding performed tests effect
   accepted e =
@@ -95,19 +97,22 @@ module _ (s : declared.Setup) (t : Tables) where
 -- ---- the harts
 
 module _ (s : declared.Setup) (h : ℕ) where
-  -- what holds of the boot hart and of one after a reset
+  -- each hart of a setup, the boot hart or one after a reset, is well formed
   pub setup-formed : wellFormed (setupHart s h) ≡ true
   setup-formed =
       by-pick (λ (x : ConfidentialHart). wellFormed x ≡ true) _ _ _
       (λ _. boot-formed h (s .mepc) (s .a1) (s .vsatp) (s .vsstatus))
       (λ _. reset-formed h)
 
+  -- it is of the one VM
   pub setup-vm : setupHart s h .vm ≡ theVm
   setup-vm = by-pick (λ (x : ConfidentialHart). x .vm ≡ theVm) _ _ _ (λ _. refl) (λ _. refl)
 
+  -- it has its row's number
   pub setup-id : setupHart s h .id ≡ h
   setup-id = by-pick (λ (x : ConfidentialHart). x .id ≡ h) _ _ _ (λ _. refl) (λ _. refl)
 
+  -- it has six registers
   pub setup-registers : length (setupHart s h .registers) ≡ registerCount
   setup-registers = by-pick (λ (x : ConfidentialHart). length (x .registers) ≡ registerCount) _ _ _ (λ _. refl) (λ _. refl)
 
@@ -156,6 +161,7 @@ pub record SetUp (s : declared.Setup) (t : Tables) : Type 0 where
   pub none-waits : (h : ℕ) → h < s .harts → queue t h ≡ emptied
   pub none-stands : regionsOf t ≡ []
 
+-- the tables at setup hold it
 pub fresh-rows : (s : declared.Setup) (t : Tables) → SetUp s (fresh s t)
 unfolding emptied standing upTo
 fresh-rows s t = record {
@@ -170,24 +176,29 @@ fresh-rows s t = record {
 
 -- each is as long as it was
 module _ (s : declared.Setup) (t : Tables) (l : Long t (s .harts) (s .hardware)) where
+  -- the head
   pub head-length : length (fresh s t .head) ≡ length (t .head)
   head-length = over-length (s .harts ∷ s .hardware ∷ 0 ∷ 0 ∷ []) (t .head) (l .head-long)
 
+  -- the home rows
   pub home-length : length (fresh s t .home) ≡ length (t .home)
   home-length =
       over-length (rowsOf (λ h. toWords (setupHart s h)) (s .harts)) (t .home)
       (rw (run-length hartWords (λ h. toWords (setupHart s h)) (λ h. to-length (setupHart s h)) (s .harts)) (l .home-long))
 
+  -- the hardware rows
   pub hardware-length : length (fresh s t .hardware) ≡ length (t .hardware)
   hardware-length =
       over-length (rowsOf (λ k. toWords (dummy k)) (s .hardware)) (t .hardware)
       (rw (run-length hartWords (λ k. toWords (dummy k)) (λ k. to-length (dummy k)) (s .hardware)) (l .hardware-long))
 
+  -- the queues
   pub queues-length : length (fresh s t .queues) ≡ length (t .queues)
   queues-length =
       over-length (replicate (s .harts * queueWords) 0) (t .queues)
       (rw (length-replicate {A = ℕ} (s .harts * queueWords) 0) (l .queues-long))
 
+  -- the regions
   pub regions-length : length (fresh s t .regions) ≡ length (t .regions)
   regions-length =
       over-length (replicate (maxRegions * regionWords) 0) (t .regions)
@@ -197,6 +208,7 @@ module _ (s : declared.Setup) (t : Tables) (a : Accepted s t) where
   abbrev after : Tables
   after = fresh s t
 
+  -- the tables at setup are sound
   pub fresh-sound : sound (fresh s t) ≡ true
   fresh-sound =
       let l = a .long in
@@ -239,8 +251,10 @@ module _ (s : declared.Setup) (t : Tables) (e : performed (Setup s) t .answer �
   pub setup-done : performed (Setup s) t .after ≡ fresh s t
   setup-done = ap (λ (o : Outcome). o .after) (accepted s t e .done)
 
+  -- they are sound
   pub setup-sound : sound (performed (Setup s) t .after) ≡ true
   setup-sound = ap sound setup-done ∙ fresh-sound s t (accepted s t e)
 
+  -- they hold what document 01 lists
   pub setup-rows : SetUp s (performed (Setup s) t .after)
   setup-rows = rw setup-done (fresh-rows s t)

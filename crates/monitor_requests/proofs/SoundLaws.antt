@@ -1,17 +1,20 @@
--- What sound tables are, fact by fact, and soundness from the facts. Assumes nothing.
+-- What sound tables are, fact by fact, and soundness from the facts; they are sound exactly when document 01's paragraph holds.
+-- Assumes nothing.
 use Prim.Native.Nat.{ℕ, _*_, _≤_, _<_}
 use mathlib.Core.Path.{_≡_, refl, sym, _∙_}
-use mathlib.Core.Logic.{_≢_}
-use mathlib.Core.Bool.{Bool, true, false, _&&_}
+use mathlib.Core.Logic.{_≢_, _↔_}
+use mathlib.Core.Bool.{Bool, true, false, not, _&&_}
 use mathlib.Core.List.{List}
 use lib.ListN.{length}
 use lib.Dec.{eqb, leb, ltb}
 use native.Mathlib.Omega.{arith}
-use borrow.Author.Tests.{eq-eqb, ne-eqb, eqb-true, eqb-false, le-leb, leb-true, lt-ltb, ltb-true}
+use borrow.Author.Tests.{eq-eqb, ne-eqb, eqb-true, eqb-false, le-leb, leb-true, lt-ltb, ltb-true, not-true}
 use Rattle.table_rows.specs.Choice.{pick, every}
-use Rattle.table_rows.proofs.PickLaws.{yes, no, and-left, and-right, and-both}
+use Rattle.table_rows.proofs.PickLaws.{yes, no, by-test, and-left, and-right, and-both, not-yes}
 use Rattle.table_rows.proofs.EveryLaws.{every-at, every-of}
+use Rattle.confidential_hart.specs.declared.ConfidentialHart.{ConfidentialHart}
 use Rattle.confidential_hart.specs.Hart.{noVm, theVm, isDummy, wellFormed}
+use Rattle.confidential_hart.proofs.HartLaws.{formed-facts}
 use Rattle.hart_rows.specs.Rows.{hartWords, hartAt}
 use Rattle.remote_commands.specs.Queue.{queueWords, queueWellFormed}
 use Rattle.mmio_regions.specs.Regions.{maxRegions}
@@ -60,6 +63,7 @@ module _ (own : ℕ) (rows others : List ℕ) (count i : ℕ) where
   tied = pick (eqb (hartAt rows i .vm) own) (eqb (hartAt rows i .id) i) (there && held && back)
 
   module _ (s : rowSound own rows others count i ≡ true) where
+    -- its record is well formed
     pub row-formed : wellFormed (hartAt rows i) ≡ true
     unfolding rowSound
     row-formed = and-left (wellFormed (hartAt rows i)) tied s
@@ -85,10 +89,12 @@ module _ (own : ℕ) (rows others : List ℕ) (count i : ℕ) where
 
   -- a well-formed row is sound by the one or by the other
   module _ (w : wellFormed (hartAt rows i) ≡ true) where
+    -- it holds its own record, which has the row's number
     pub sound-own : hartAt rows i .vm ≡ own → hartAt rows i .id ≡ i → rowSound own rows others count i ≡ true
     unfolding rowSound
     sound-own p q = and-both w (sym (yes _ (eq-eqb _ _ p) (sym (eq-eqb _ _ q))))
 
+    -- it names a row of the other table, which holds its own
     pub sound-names : hartAt rows i .vm ≢ own → Names own rows others count i → rowSound own rows others count i ≡ true
     unfolding rowSound
     sound-names p r =
@@ -108,6 +114,7 @@ pub record Sound (t : Tables) : Type 0 where
 
 -- how many there are
 module _ (n m : ℕ) where
+  -- counts between the bounds are in range
   pub in-range : 1 ≤ n → n ≤ maxHarts → 1 ≤ m → m ≤ maxHardwareHarts → countsInRange n m ≡ true
   in-range a b c d =
       and-both {a = leb 1 n && leb n maxHarts && leb 1 m}
@@ -121,15 +128,19 @@ module _ (n m : ℕ) where
     two : leb 1 n && leb n maxHarts ≡ true
     two = and-left (leb 1 n && leb n maxHarts) (leb 1 m) three
 
+    -- in range: there is a hart
     pub range-some-harts : 1 ≤ n
     range-some-harts = leb-true _ _ (and-left (leb 1 n) (leb n maxHarts) two)
 
+    -- at most 1,024 harts
     pub range-few-harts : n ≤ maxHarts
     range-few-harts = leb-true _ _ (and-right (leb 1 n) (leb n maxHarts) two)
 
+    -- there is a hardware hart
     pub range-some-hardware : 1 ≤ m
     range-some-hardware = leb-true _ _ (and-right (leb 1 n && leb n maxHarts) (leb 1 m) three)
 
+    -- at most 64 hardware harts
     pub range-few-hardware : m ≤ maxHardwareHarts
     range-few-hardware = leb-true _ _ (and-right (leb 1 n && leb n maxHarts && leb 1 m) (leb m maxHardwareHarts) r)
 
@@ -150,6 +161,7 @@ module _ (t : Tables) (n m : ℕ) where
   abbrev long-regions : Bool
   long-regions = leb (maxRegions * regionWords) (length (t .regions))
 
+  -- tables that are long enough are so length by length
   pub long-facts : longEnough t n m ≡ true → Long t n m
   unfolding longEnough
   long-facts e =
@@ -164,6 +176,7 @@ module _ (t : Tables) (n m : ℕ) where
         regions-long = leb-true _ _ (and-right (long-head && long-home && long-hardware && long-queues) long-regions e);
       }
 
+  -- and the other way
   pub facts-long : Long t n m → longEnough t n m ≡ true
   unfolding longEnough
   facts-long l =
@@ -188,22 +201,23 @@ module _ (t : Tables) where
   abbrev on-hardware : Bool
   on-hardware = every (hardwareRowSound t) (hardwareHarts t)
 
-  abbrev queued : Bool
-  queued = every (λ h. queueWellFormed (queue t h)) (harts t)
+  abbrev queues-formed : Bool
+  queues-formed = every (λ h. queueWellFormed (queue t h)) (harts t)
 
-  abbrev last : Bool
-  last = regionsSound (t .regions) (regionCount t)
+  abbrev regions-fine : Bool
+  regions-fine = regionsSound (t .regions) (regionCount t)
 
+  -- sound tables have the facts
   pub sound-facts : sound t ≡ true → Sound t
   unfolding sound
   sound-facts s =
-      let five = and-left (ranges && long && at-home && on-hardware && queued) last s in
-      let four = and-left (ranges && long && at-home && on-hardware) queued five in
+      let five = and-left (ranges && long && at-home && on-hardware && queues-formed) regions-fine s in
+      let four = and-left (ranges && long && at-home && on-hardware) queues-formed five in
       let three = and-left (ranges && long && at-home) on-hardware four in
       let two = and-left (ranges && long) at-home three in
       let r = and-left ranges long two in
       let l = long-facts t (harts t) (hardwareHarts t) (and-right ranges long two) in
-      let z = and-right (ranges && long && at-home && on-hardware && queued) last s in
+      let z = and-right (ranges && long && at-home && on-hardware && queues-formed) regions-fine s in
       record {
         sized = record {
           some-harts = range-some-harts (harts t) (hardwareHarts t) r;
@@ -216,7 +230,7 @@ module _ (t : Tables) where
         home-row = λ h b. every-at (homeRowSound t) h (harts t) (and-right (ranges && long) at-home three) b;
         hardware-row = λ k b. every-at (hardwareRowSound t) k (hardwareHarts t) (and-right (ranges && long && at-home) on-hardware four) b;
         queue-formed = λ h b.
-            every-at (λ i. queueWellFormed (queue t i)) h (harts t) (and-right (ranges && long && at-home && on-hardware) queued five) b;
+            every-at (λ i. queueWellFormed (queue t i)) h (harts t) (and-right (ranges && long && at-home && on-hardware) queues-formed five) b;
         regions-sound = z;
       }
 
@@ -224,11 +238,12 @@ module _ (t : Tables) where
   pub sound-sized : sound t ≡ true → Sized t
   sound-sized s = sound-facts s .sized
 
+  -- tables with the facts are sound
   pub facts-sound : Sound t → sound t ≡ true
   unfolding sound
   facts-sound f =
       let z = f .sized in
-      and-both {a = ranges && long && at-home && on-hardware && queued}
+      and-both {a = ranges && long && at-home && on-hardware && queues-formed}
       (and-both {a = ranges && long && at-home && on-hardware}
       (and-both {a = ranges && long && at-home}
       (and-both {a = ranges && long}
@@ -243,9 +258,11 @@ module _ (t : Tables) where
 -- ---- what a caller asks of a row of sound tables
 
 module _ (t : Tables) (s : sound t ≡ true) where
+  -- the record of a home row is well formed
   pub home-formed : (h : ℕ) → h < harts t → wellFormed (homeHart t h) ≡ true
   home-formed h l = row-formed theVm (t .home) (t .hardware) (hardwareHarts t) h (sound-facts t s .home-row h l)
 
+  -- so is that of a hardware row
   pub hardware-formed : (k : ℕ) → k < hardwareHarts t → wellFormed (hardwareHart t k) ≡ true
   hardware-formed k l = row-formed noVm (t .hardware) (t .home) (harts t) k (sound-facts t s .hardware-row k l)
 
@@ -258,3 +275,150 @@ module _ (t : Tables) (s : sound t ≡ true) where
   -- a real hart on hardware names a home row, which holds the dummy of this row
   pub held-names : (k : ℕ) → k < hardwareHarts t → isDummy (hardwareHart t k) ≡ false → Names noVm (t .hardware) (t .home) (harts t) k
   held-names k l d = row-names noVm (t .hardware) (t .home) (harts t) k (sound-facts t s .hardware-row k l) (eqb-false _ _ d)
+
+-- ---- home row h holds dummy k exactly when hardware row k holds real hart h
+
+-- home row h holds dummy k
+abbrev pub homeHolds : Tables → ℕ → ℕ → Bool
+homeHolds t h k = isDummy (homeHart t h) && eqb (homeHart t h .id) k
+
+-- hardware row k holds real hart h
+abbrev pub hardwareHolds : Tables → ℕ → ℕ → Bool
+hardwareHolds t h k = not (isDummy (hardwareHart t k)) && eqb (hardwareHart t k .id) h
+
+-- a well-formed record that is no dummy is of the one VM
+real-vm : (x : ConfidentialHart) → wellFormed x ≡ true → isDummy x ≡ false → x .vm ≡ theVm
+real-vm x w d = let n : x .vm ≢ noVm = eqb-false _ _ d in omega (arith, formed-facts x w .vm-known)
+
+both-ways : (a b : Bool) → (a ≡ true → b ≡ true) → (b ≡ true → a ≡ true) → a ≡ b
+both-ways true b f g = sym (f refl)
+both-ways false true f g = g refl
+both-ways false false f g = refl
+
+-- in sound tables a home row and a hardware row name each other, or neither does
+pub exactly-when : (t : Tables) → sound t ≡ true → (h k : ℕ) → h < harts t → k < hardwareHarts t → homeHolds t h k ≡ hardwareHolds t h k
+exactly-when t s h k lh lk =
+    let dummy : Bool = isDummy (homeHart t h) in
+    let real : Bool = not (isDummy (hardwareHart t k)) in
+    both-ways (homeHolds t h k) (hardwareHolds t h k)
+    (λ e.
+    let i : homeHart t h .id ≡ k = eqb-true _ _ (and-right dummy _ e) in
+    let n = away-names t s h lh (and-left dummy _ e) in
+    let v : hardwareHart t k .vm ≡ theVm = rw i at (n .held) in
+    let j : hardwareHart t k .id ≡ h = rw i at (n .back) in
+    and-both (not-yes _ (ne-eqb (hardwareHart t k .vm) noVm (λ q. omega arith))) (eq-eqb _ _ j))
+    (λ e.
+    let i : hardwareHart t k .id ≡ h = eqb-true _ _ (and-right real _ e) in
+    let n = held-names t s k lk (not-true _ (and-left real _ e)) in
+    let v : homeHart t h .vm ≡ noVm = rw i at (n .held) in
+    let j : homeHart t h .id ≡ k = rw i at (n .back) in
+    and-both (eq-eqb _ _ v) (eq-eqb _ _ j))
+
+-- ---- sound exactly when document 01's paragraph holds
+
+-- the paragraph, sentence by sentence
+pub record Paragraph (t : Tables) : Type 0 where
+  -- counts are in range
+  pub some-harts : 1 ≤ harts t
+  pub few-harts : harts t ≤ maxHarts
+  pub some-hardware : 1 ≤ hardwareHarts t
+  pub few-hardware : hardwareHarts t ≤ maxHardwareHarts
+  -- the tables are long enough: n home rows, m hardware rows, n queues of 64, always 1,024 regions
+  pub long-enough : Long t (harts t) (hardwareHarts t)
+  -- the record of a home row is as it must be; a real one is that of the row's hart, and a dummy is that of one of the m hardware harts
+  pub home-record : (h : ℕ) → h < harts t → wellFormed (homeHart t h) ≡ true
+  pub home-real : (h : ℕ) → h < harts t → isDummy (homeHart t h) ≡ false → homeHart t h .id ≡ h
+  pub home-dummy : (h : ℕ) → h < harts t → isDummy (homeHart t h) ≡ true → homeHart t h .id < hardwareHarts t
+  -- so is that of a hardware row; a dummy is the row's own, and a real one is numbered below n
+  pub hardware-record : (k : ℕ) → k < hardwareHarts t → wellFormed (hardwareHart t k) ≡ true
+  pub hardware-dummy : (k : ℕ) → k < hardwareHarts t → isDummy (hardwareHart t k) ≡ true → hardwareHart t k .id ≡ k
+  pub hardware-real : (k : ℕ) → k < hardwareHarts t → isDummy (hardwareHart t k) ≡ false → hardwareHart t k .id < harts t
+  -- home row h holds dummy k exactly when hardware row k holds real hart h
+  pub holds-exactly : (h k : ℕ) → h < harts t → k < hardwareHarts t → homeHolds t h k ≡ hardwareHolds t h k
+  -- a queue has at most 64 commands, each as it must be, and its unused places are 0
+  pub queue-record : (h : ℕ) → h < harts t → queueWellFormed (queue t h) ≡ true
+  -- at most 1,024 regions stand, each with base ≤ end, and the unused places are 0
+  pub regions-record : regionsSound (t .regions) (regionCount t) ≡ true
+
+-- sound tables are as it says
+pub sound-paragraph : (t : Tables) → sound t ≡ true → Paragraph t
+sound-paragraph t s =
+    let f = sound-facts t s in
+    let z = f .sized in
+    record {
+      some-harts = z .some-harts;
+      few-harts = z .few-harts;
+      some-hardware = z .some-hardware;
+      few-hardware = z .few-hardware;
+      long-enough = z .long;
+      home-record = home-formed t s;
+      home-real = λ h l d.
+          row-own theVm (t .home) (t .hardware) (hardwareHarts t) h (f .home-row h l) (real-vm (homeHart t h) (home-formed t s h l) d);
+      home-dummy = λ h l d. away-names t s h l d .there;
+      hardware-record = hardware-formed t s;
+      hardware-dummy = λ k l d. row-own noVm (t .hardware) (t .home) (harts t) k (f .hardware-row k l) (eqb-true _ _ d);
+      hardware-real = λ k l d. held-names t s k l d .there;
+      holds-exactly = exactly-when t s;
+      queue-record = f .queue-formed;
+      regions-record = f .regions-sound;
+    }
+
+module _ (t : Tables) (p : Paragraph t) where
+  -- a dummy at home names the hardware row that holds the hart of this row
+  paragraph-home : (h : ℕ) → h < harts t → homeRowSound t h ≡ true
+  paragraph-home h l =
+      let w = p .home-record h l in
+      by-test (isDummy (homeHart t h))
+      (λ d.
+      let none : homeHart t h .vm ≡ noVm = eqb-true _ _ d in
+      let k : ℕ = homeHart t h .id in
+      let b : k < hardwareHarts t = p .home-dummy h l d in
+      let e : hardwareHolds t h k ≡ true = sym (p .holds-exactly h k l b) ∙ and-both d (eq-eqb k k refl) in
+      let r = not-true _ (and-left (not (isDummy (hardwareHart t k))) _ e) in
+      sound-names theVm (t .home) (t .hardware) (hardwareHarts t) h w (λ q. omega arith)
+      (record {
+        there = b;
+        held = real-vm (hardwareHart t k) (p .hardware-record k b) r;
+        back = eqb-true _ _ (and-right (not (isDummy (hardwareHart t k))) _ e);
+      }))
+      (λ d. sound-own theVm (t .home) (t .hardware) (hardwareHarts t) h w (real-vm (homeHart t h) w d) (p .home-real h l d))
+
+  -- a real hart on hardware names the home row that holds the dummy of this row
+  paragraph-hardware : (k : ℕ) → k < hardwareHarts t → hardwareRowSound t k ≡ true
+  paragraph-hardware k l =
+      let w = p .hardware-record k l in
+      by-test (isDummy (hardwareHart t k))
+      (λ d. sound-own noVm (t .hardware) (t .home) (harts t) k w (eqb-true _ _ d) (p .hardware-dummy k l d))
+      (λ d.
+      let h : ℕ = hardwareHart t k .id in
+      let b : h < harts t = p .hardware-real k l d in
+      let e : homeHolds t h k ≡ true = p .holds-exactly h k b l ∙ and-both (not-yes _ d) (eq-eqb h h refl) in
+      sound-names noVm (t .hardware) (t .home) (harts t) k w (eqb-false _ _ d)
+      (record {
+        there = b;
+        held = eqb-true _ _ (and-left (isDummy (homeHart t h)) _ e);
+        back = eqb-true _ _ (and-right (isDummy (homeHart t h)) _ e);
+      }))
+
+  -- and tables as it says are sound
+  pub paragraph-sound : sound t ≡ true
+  paragraph-sound =
+      facts-sound t
+      (record {
+        sized = record {
+          some-harts = p .some-harts;
+          few-harts = p .few-harts;
+          some-hardware = p .some-hardware;
+          few-hardware = p .few-hardware;
+          few-regions = regions.sound-sized (t .regions) (regionCount t) (p .regions-record) .few;
+          long = p .long-enough;
+        };
+        home-row = paragraph-home;
+        hardware-row = paragraph-hardware;
+        queue-formed = p .queue-record;
+        regions-sound = p .regions-record;
+      })
+
+-- tables are sound exactly when the paragraph holds of them
+pub sound-exactly : (t : Tables) → (sound t ≡ true) ↔ Paragraph t
+sound-exactly t = (sound-paragraph t, paragraph-sound t)

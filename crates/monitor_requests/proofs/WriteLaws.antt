@@ -47,7 +47,6 @@ use Rattle.monitor_requests.specs.Tables.{
 }
 use Rattle.monitor_requests.specs.Requests.{
   Outcome,
-  tests,
   withHead,
   withHome,
   withQueues,
@@ -76,7 +75,8 @@ use Rattle.monitor_requests.specs.Writes.{
 use Rattle.monitor_requests.proofs.SoundLaws.{sound-sized}
 use Rattle.monitor_requests.proofs.MoveLaws.{home-fits, hardware-fits}
 use Rattle.monitor_requests.proofs.BroadcastLaws.{broadcast-length, broadcast-past, passed-row}
-use Rattle.monitor_requests.proofs.RequestLaws.{by-tests, by-request, isSetup}
+use Rattle.monitor_requests.proofs.JudgedLaws.{by-performed, isSetup}
+use Rattle.monitor_requests.proofs.RequestLaws.{by-request}
 
 -- ---- each request writes only its places
 
@@ -234,11 +234,11 @@ module _ (t : Tables) (s : sound t ≡ true) where
 
 -- a setup of any tables: what lies past the tables of the new VM
 pub setup-past-kept : (s : declared.Setup) (t : Tables) → past (s .harts) (s .hardware) (performed (Setup s) t .after) ≡ past (s .harts) (s .hardware) t
-unfolding performed tests effect
+unfolding effect
 setup-past-kept s t =
     let n = s .harts in
     let m = s .hardware in
-    by-tests t (effect (Setup s) t) (λ (o : Outcome). past n m (o .after) ≡ past n m t) (tests (Setup s) t) (λ _. refl)
+    by-performed (Setup s) t (λ (o : Outcome). past n m (o .after) ≡ past n m t) (λ _. refl)
     (λ _.
     rw (
       drop-over (rowsOf (λ h. toWords (setupHart s h)) n) (t .home) (n * hartWords)

@@ -56,7 +56,22 @@ use Rattle.monitor_requests.specs.declared.Request.the-variants.{
 }
 use Rattle.monitor_requests.specs.declared.Answer.{Answer}
 use Rattle.monitor_requests.specs.declared.Answer.the-variants.{Refused, Done, Mask, State, Flag}
-use Rattle.monitor_requests.specs.Tables.{Tables, tables, allowedWord, regionsWord, harts, hardwareHarts, allowed, regionCount, homeHart, hardwareHart, regionsOf, countsInRange, longEnough, sound}
+use Rattle.monitor_requests.specs.Tables.{
+  Tables,
+  tables,
+  allowedWord,
+  regionsWord,
+  harts,
+  hardwareHarts,
+  allowed,
+  regionCount,
+  homeHart,
+  hardwareHart,
+  regionsOf,
+  countsInRange,
+  longEnough,
+  sound,
+}
 
 -- the answer, and the tables afterwards
 pub record Outcome : Type 0 where
@@ -114,12 +129,14 @@ regionFrom base size = regionOf base (base + size)
 
 -- ---- tests
 
--- the tests of each request, in order. Setup never gives 12, and every other request gives it first
+-- the tests of each request in order, with their numbers above. Setup never gives 12, and every other request gives it first
 unfoldable pub tests : Request → Tables → List Test
+-- 18, 13
 tests (Setup s) t =
     refuse SetupOutOfRange (not (countsInRange (s .harts) (s .hardware) && ltb (s .boot) (s .harts)))
     ∷ refuse RoomTooShort (not (longEnough t (s .harts) (s .hardware)))
     ∷ []
+-- 12, 14, 15, 1, 2, 3
 tests (Steal hart on) t =
     unsound t
     ∷ noHardwareHart (on .0) t
@@ -128,28 +145,37 @@ tests (Steal hart on) t =
     ∷ away (hart .0) t
     ∷ refuse HartNotExecutable (not (isExecutable (homeHart t (hart .0))))
     ∷ []
+-- 12, 14, 16
 tests (Return on) t =
     unsound t
     ∷ noHardwareHart (on .0) t
     ∷ refuse HardwareHartIdle (isDummy (hardwareHart t (on .0)))
     ∷ []
+-- 12, 1, 2, 4
 tests (Start hart address opaque) t =
     unsound t
     ∷ noHart (hart .0) t
     ∷ away (hart .0) t
     ∷ refuse CannotStartNotStoppedHart (refuses (start (homeHart t (hart .0) .lifecycle)))
     ∷ []
+-- 12, 1
 tests (Status hart) t = unsound t ∷ noHart (hart .0) t ∷ []
+-- 12
 tests Home t = unsound t ∷ []
+-- 12, 19
 tests (Send sender c) t = unsound t ∷ refuse UnknownKind (not (wellFormed c)) ∷ []
+-- 12
 tests (Allow bits) t = unsound t ∷ []
+-- 12, 11, 9, 10
 tests (Add base size) t =
     unsound t
     ∷ tooLarge base size
     ∷ refuse ReachedMaxNumberOfMmioRegions (leb maxRegions (length (regionsOf t)))
     ∷ refuse OverlappingMmioRegion (anyOverlaps (regionFrom base size) (regionsOf t))
     ∷ []
+-- 12, 11
 tests (Remove base size) t = unsound t ∷ tooLarge base size ∷ []
+-- 12, 11
 tests (Defined base size) t = unsound t ∷ tooLarge base size ∷ []
 
 -- ---- parts of effects

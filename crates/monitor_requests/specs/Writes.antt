@@ -54,7 +54,7 @@ within regionTable t = true
 within allowedMask t = true
 within counts t = true
 
--- a place by two numbers: its kind, and its row
+-- a place by two numbers: its kind
 abbrev pub kindOf : Place → ℕ
 kindOf (homeRow h) = 0
 kindOf (hardwareRow k) = 1
@@ -63,6 +63,7 @@ kindOf regionTable = 3
 kindOf allowedMask = 4
 kindOf counts = 5
 
+-- and its row, 0 for a place that is no row
 abbrev pub rowOf : Place → ℕ
 rowOf (homeRow h) = h
 rowOf (hardwareRow k) = k

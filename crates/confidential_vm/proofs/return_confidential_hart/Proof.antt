@@ -1,17 +1,15 @@
 -- `confidential_vm::return_confidential_hart` meets its contract: 12 first, and then what sound tables have. Assumes nothing.
-use mathlib.Core.Path.{refl, sym, ap, _∙_}
-use mathlib.Core.Bool.{not}
-use borrow.Author.Tests.{not-false}
-use Rattle.table_rows.proofs.PickLaws.{yes}
-use Rattle.monitor_requests.specs.Requests.{performed, tests}
+use mathlib.Core.Path.{refl, sym, _∙_}
+use borrow.Author.Tests.{not-true, not-false}
+use Rattle.monitor_requests.specs.declared.Request.the-variants.{Return}
 use Rattle.monitor_requests.proofs.SoundLaws.{sound-sized}
+use Rattle.monitor_requests.proofs.JudgedLaws.{unsound-refused}
 use borrow.Author.Needs.{needs}
 use Rattle.confidential_vm.proofs.return_confidential_hart.Statement.{statement}
 use Rattle.confidential_vm.proofs.return_confidential_hart.Tie as tie
 
 returns : tie.Need-returns
-unfolding performed tests
-returns c = yes _ (ap not (sym (c .before .are-tables-sound .ensures)) ∙ c .if1 .taken) refl
+returns c = sym (unsound-refused (Return _) _ refl (sym (c .before .are-tables-sound .ensures) ∙ not-true _ (c .if1 .taken)))
 
 give-back-requires : tie.Need-give-back-requires
 give-back-requires c κs =
