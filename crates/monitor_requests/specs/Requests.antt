@@ -1,6 +1,6 @@
 -- What the monitor is: for each request its tests in order, and then its effect.
 use Prim.Native.Nat.{ℕ, zero, suc, _+_, _*_}
-use mathlib.Core.Bool.{Bool, true, false, _&&_, _||_, not}
+use mathlib.Core.Bool.{Bool, true, false, _&&_, not}
 use mathlib.Core.List.{List, [], _∷_, _++_}
 use lib.Bits.{bitOr}
 use lib.ListN.{length, set, drop, replicate}

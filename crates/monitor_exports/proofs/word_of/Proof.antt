@@ -1,5 +1,4 @@
 -- `monitor_exports::word_of` meets its contract: one choice. Assumes nothing.
-use borrow.Author.Needs.{needs}
 use mathlib.Core.Path.{refl}
 use Rattle.table_rows.proofs.PickLaws.{yes, no}
 use Rattle.monitor_exports.proofs.word_of.Statement.{statement}

@@ -9,6 +9,9 @@ use Rattle.monitor_requests.proofs.Answer.number.Tie as tie
 returns : tie.Need-returns
 returns c = c .number .ensures ∙ sym (ap (λ (a : Answer). given a .number) (c .before .before .self .given .1))
 
+done : tie.Need-returns-2
+done c = sym (ap (λ (a : Answer). given a .number) (c .enum-told .given .1))
+
 pub number-spec : {M : Type 1} → statement M
 number-spec =
     tie.close
@@ -20,7 +23,7 @@ number-spec =
     (λ c. search needs)
     (λ c. search needs)
     returns
-    (λ c. search needs)
+    done
     (λ c. search needs)
     (λ c. search needs)
     (λ c. search needs))
