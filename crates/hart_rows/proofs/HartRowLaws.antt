@@ -28,12 +28,12 @@ to-from ws e = words-all hartWords ws e
 pub from-registers : (ws : List ℕ) → length ws ≡ hartWords → fromWords ws .registers ≡ take registerCount (drop registerWord ws)
 from-registers ws e = ap (λ (l : List ℕ). take registerCount (drop registerWord l)) (words-all hartWords ws e)
 
--- a row in its place is well formed exactly when its record is; the number is not looked at
-pub row-formed : (ws : List ℕ) → length ws ≡ hartWords
-    → wellFormed (hartOf (getD ws vmWord 0) 0 (getD ws lifecycleWord 0) (getD ws operationWord 0) (getD ws xWord 0) (getD ws yWord 0) (take registerCount (drop registerWord ws)))
+-- a row in its place, with its VM, is well formed exactly when its record is; the number is not looked at
+pub row-formed : (vm : ℕ) (ws : List ℕ) → length ws ≡ hartWords → vm ≡ getD ws vmWord 0
+    → wellFormed (hartOf vm 0 (getD ws lifecycleWord 0) (getD ws operationWord 0) (getD ws xWord 0) (getD ws yWord 0) (take registerCount (drop registerWord ws)))
     ≡ wellFormed (fromWords ws)
 unfolding wellFormed
-row-formed ws e = rw (← (from-registers ws e))
+row-formed vm ws e v = rw (v, ← (from-registers ws e))
 
 -- ---- its row
 

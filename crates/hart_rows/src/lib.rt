@@ -1,10 +1,10 @@
 // Hart records as rows of a table.
 ghost use mathlib.Core.Path.{_≡_};
 ghost use Prim.Native.Nat.{_+_, _*_, _≤_};
-ghost use lib.ListN.{length};
+ghost use lib.ListN.{length, getD};
 ghost use Rattle.table_rows.specs.Rows.{put};
 ghost use Rattle.confidential_hart.specs.Hart.{wellFormed};
-ghost use Rattle.hart_rows.specs.Rows.{hartWords, toWords, fromWords, hartAt};
+ghost use Rattle.hart_rows.specs.Rows.{vmWord, hartWords, toWords, fromWords, hartAt};
 use confidential_hart::A0;
 use confidential_hart::A1;
 use confidential_hart::ConfidentialHart;
@@ -45,13 +45,14 @@ const MSTATUS_WORD: usize = REGISTER_WORD + MSTATUS;
 
 const VSSTATUS_WORD: usize = REGISTER_WORD + VSSTATUS;
 
-// Whether a row of twelve words holds a record that is as it must be. The words are read in their place, which is faster than a record by value.
-pub fn is_row_well_formed(row: &[u64]) -> bool
-    requires { ⌜ length (now row) ≡ hartWords ⌝ }
+// Whether a row of twelve words holds a record that is as it must be. The words are read in their place, which is faster than a record by
+// value; the VM is handed over by the caller, who has read it.
+pub fn is_row_well_formed(vm: u64, row: &[u64]) -> bool
+    requires { ⌜ (length (now row) ≡ hartWords) × (vm ≡ getD (now row) vmWord 0) ⌝ }
     ensures { λ r. ⌜ r ≡ wellFormed (fromWords (now (row .entry))) ⌝ }
 {
     confidential_hart::are_parts_well_formed(
-        row[VM_WORD],
+        vm,
         row[LIFECYCLE_WORD],
         row[OPERATION_WORD],
         row[X_WORD],

@@ -117,7 +117,7 @@ pub extern "C" fn leaf_is_row_well_formed(row: &[u64]) -> bool
     requires { ⌜ length (now row) ≡ hartWords ⌝ }
     ensures { λ r. ⌜ r ≡ hartWellFormed (fromWords (now (row .entry))) ⌝ }
 {
-    hart_rows::is_row_well_formed(row)
+    hart_rows::is_row_well_formed(row[hart_rows::VM_WORD], row)
 }
 
 // Writes a dummy to a row.

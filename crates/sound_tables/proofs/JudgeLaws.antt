@@ -1,15 +1,15 @@
 -- What `is_row_sound` answers on each of its ways, and what `are_tables_sound` does. Assumes nothing.
 use Prim.Native.Nat.{ℕ, _+_, _-_, _*_, _≤_, _<_}
-use mathlib.Core.Path.{_≡_, ap, _∙_}
+use mathlib.Core.Path.{_≡_, sym, ap, _∙_}
 use mathlib.Core.Bool.{Bool, true, false, not, _&&_, and-false}
 use mathlib.Core.List.{List}
-use lib.ListN.{length, take, drop}
+use lib.ListN.{length, getD, take, drop}
 use lib.Dec.{eqb}
 use borrow.Author.Tests.{not-true, not-false, lt-leb, lt-ltb, le-ltb}
 use Rattle.table_rows.specs.Choice.{pick, every}
 use Rattle.table_rows.proofs.PartLaws.{part-row}
 use Rattle.confidential_hart.specs.Hart.{wellFormed}
-use Rattle.hart_rows.specs.Rows.{hartWords, fromWords, hartAt}
+use Rattle.hart_rows.specs.Rows.{vmWord, hartWords, fromWords, hartAt}
 use Rattle.remote_commands.specs.Queue.{queueWellFormed}
 use Rattle.mmio_regions.specs.Table.{regionsSound}
 use Rattle.monitor_requests.specs.Tables.{
@@ -34,6 +34,12 @@ formed-part : (rows : List ℕ) (i : ℕ)
     → wellFormed (fromWords (take (i * hartWords + hartWords - i * hartWords) (drop (i * hartWords) rows))) ≡ wellFormed (hartAt rows i)
 unfolding hartAt
 formed-part rows i = ap (λ (ws : List ℕ). wellFormed (fromWords ws)) (part-row hartWords rows i)
+
+-- and its VM is that of the hart in row i
+pub vm-part : (rows : List ℕ) (i vm : ℕ) → vm ≡ hartAt rows i .vm
+    → vm ≡ getD (take (i * hartWords + hartWords - i * hartWords) (drop (i * hartWords) rows)) vmWord 0
+unfolding hartAt
+vm-part rows i vm e = e ∙ ap (λ (ws : List ℕ). getD ws vmWord 0) (sym (part-row hartWords rows i))
 
 module _ (own : ℕ) (rows others : List ℕ) (count i : ℕ) (formed : Bool)
     (is-formed : formed ≡ wellFormed (fromWords (take (i * hartWords + hartWords - i * hartWords) (drop (i * hartWords) rows)))) where

@@ -53,22 +53,22 @@ fn is_row_sound(own: u64, rows: &[u64], others: &[u64], count: usize, i: usize) 
 {
     let a = i * HART_WORDS;
     let e = a + HART_WORDS;
-    let malformed = !hart_rows::is_row_well_formed(&rows[a..e]);
+    let vm = hart_tables::vm(rows, i);
+    let malformed = !hart_rows::is_row_well_formed(vm, &rows[a..e]);
     if malformed {
         return false;
     }
     let id = hart_tables::id(rows, i);
-    let its_own = hart_tables::vm(rows, i) == own;
-    if its_own {
+    if vm == own {
         return id == i as u64;
     }
     let j = id as usize;
     if count <= j {
         return false;
     }
-    let vm = hart_tables::vm(others, j);
+    let other = hart_tables::vm(others, j);
     let back = hart_tables::id(others, j);
-    (vm == own) & (back == i as u64)
+    (other == own) & (back == i as u64)
 }
 
 // Whether each of `n` rows is sound beside the `count` rows of the other table.
