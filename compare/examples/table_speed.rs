@@ -5,7 +5,7 @@ use compare::tables::{HEAD_WORDS, Tables};
 use compare::timing::ratio;
 use compare::{HART_WORDS, MOST_REGIONS, QUEUE_WORDS, REGION_WORDS};
 use oracle::core::control_data::{ConfidentialHart, ConfidentialVm, ConfidentialVmId, HardwareHart};
-use oracle::driver::Command;
+use oracle::driver::{Command, Random};
 use std::hint::black_box;
 
 /// Soundness as one would write it.
@@ -60,6 +60,23 @@ fn started(n: usize, m: usize, waiting: usize) -> (Tables, ConfidentialVm, Comma
     (ours, rust, last)
 }
 
+/// Gives every waiting command a kind at random, with the numbers that it does not use made 0.
+fn mix_kinds(tables: &mut Tables) {
+    let random = &mut Random::new(1);
+    for queue in tables.queues.chunks_exact_mut(QUEUE_WORDS) {
+        let waiting = queue[0] as usize;
+        for command in queue[1..].chunks_exact_mut(6).take(waiting) {
+            command[0] = 1 + random.below(5) as u64;
+            command[3..].fill(1);
+            match command[0] {
+                1 | 2 => command[3..].fill(0),
+                3 => command[5] = 0,
+                _ => {}
+            }
+        }
+    }
+}
+
 fn main() {
     println!("| work | time against plain Rust |");
     println!("|---|---|");
@@ -72,6 +89,14 @@ fn main() {
                 &format!("soundness, {size}"),
                 || assert_eq!(black_box(&ours).are_tables_sound(), 1),
                 || assert!(are_sound(black_box(&words))),
+            );
+            let mut mixed = ours.clone();
+            mix_kinds(&mut mixed);
+            let words_mixed = mixed.clone();
+            ratio(
+                &format!("soundness, kinds at random, {size}"),
+                || assert_eq!(black_box(&mixed).are_tables_sound(), 1),
+                || assert!(are_sound(black_box(&words_mixed))),
             );
             let mut hardware_hart = HardwareHart::init(1);
             let (h, k) = (n as u64 - 1, 1);
