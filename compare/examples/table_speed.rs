@@ -1,7 +1,7 @@
 //! Times soundness and the entries on the tables beside plain Rust, and prints the ratios. An entry judges the tables first, which the original
 //! Rust does not: beside each entry runs the original after a judge of the same words in plain Rust.
 use compare::document_01::{is_long_enough, is_queue, is_record, is_region_table};
-use compare::tables::{HEAD_WORDS, Tables};
+use compare::tables::{HEAD_WORDS, Tables, VALUE_WORDS};
 use compare::timing::ratio;
 use compare::{HART_WORDS, MOST_REGIONS, QUEUE_WORDS, REGION_WORDS};
 use oracle::core::control_data::{ConfidentialHart, ConfidentialVm, ConfidentialVmId, HardwareHart};
@@ -54,7 +54,7 @@ fn started(n: usize, m: usize, waiting: usize) -> (Tables, ConfidentialVm, Comma
     let mut last = Command::default();
     for start in 0..waiting {
         last = Command { kind: 3, mask: start + 1, base: usize::MAX, start, size: 4096, tag: 0 };
-        assert_eq!(ours.broadcast_remote_command(n as u64, last, &mut [0]), 0);
+        assert_eq!(ours.broadcast_remote_command(n as u64, last, &mut [0; VALUE_WORDS]), 0);
         rust.broadcast_remote_command(n, last.to_remote_command().expect("well formed")).expect("there is room");
     }
     (ours, rust, last)
@@ -102,12 +102,12 @@ fn main() {
             let (h, k) = (n as u64 - 1, 1);
             // The plain judge also agrees while a hart is stolen.
             let mut stolen = words.clone();
-            assert_eq!(stolen.steal_confidential_hart(h, k, &mut [0]), 0);
+            assert_eq!(stolen.steal_confidential_hart(h, k, &mut [0; VALUE_WORDS]), 0);
             assert!(are_sound(&stolen));
             ratio(
                 &format!("steal and return, {size}"),
                 || {
-                    assert_eq!(black_box(&mut ours).steal_confidential_hart(h, k, &mut [0]), 0);
+                    assert_eq!(black_box(&mut ours).steal_confidential_hart(h, k, &mut [0; VALUE_WORDS]), 0);
                     assert_eq!(black_box(&mut ours).return_confidential_hart(k), 0);
                 },
                 || {
@@ -121,7 +121,7 @@ fn main() {
             let command = last.to_remote_command().expect("well formed");
             ratio(
                 &format!("broadcast, {size}"),
-                || assert_eq!(black_box(&mut ours).broadcast_remote_command(0, black_box(last), &mut [0]), 0),
+                || assert_eq!(black_box(&mut ours).broadcast_remote_command(0, black_box(last), &mut [0; VALUE_WORDS]), 0),
                 || {
                     assert!(are_sound(black_box(&words)));
                     black_box(&mut rust).broadcast_remote_command(0, black_box(command.clone())).expect("it waits already");

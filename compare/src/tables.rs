@@ -1,8 +1,10 @@
 //! The tables of one VM, and the proved entries on them. An entry takes any numbers and any tables, and gives document 01's number. One whose
-//! answer has a value takes one more slice and writes the value to its first word.
+//! answer may have values takes one more slice, of at least `VALUE_WORDS` words, and writes them over its front.
 use oracle::driver::Command;
 
 pub const HEAD_WORDS: usize = 4;
+/// The room that an entry asks for the values of its answer.
+pub const VALUE_WORDS: usize = 4;
 
 /// Five runs of words, of any length: the counts and the allowed mask, the home rows, the hardware rows, the queues and the regions.
 #[derive(Clone, PartialEq, Debug)]

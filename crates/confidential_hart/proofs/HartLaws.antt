@@ -3,11 +3,11 @@ use Prim.Native.Nat.{ℕ, _≤_}
 use mathlib.Core.Path.{_≡_, refl}
 use mathlib.Core.Bool.{Bool, true, false, not, _&&_, _||_}
 use lib.Dec.{eqb, leb}
-use borrow.Author.Tests.{eqb-true, leb-true, eq-eqb, le-leb}
+use borrow.Author.Tests.{eqb-true, eqb-false, leb-true, eq-eqb, le-leb}
 use Rattle.table_rows.specs.Choice.{every, allZero}
 use Rattle.table_rows.proofs.PickLaws.{and-left, and-right, and-both}
 use Rattle.confidential_hart.specs.declared.ConfidentialHart.{ConfidentialHart}
-use Rattle.confidential_hart.specs.Hart.{noVm, theVm, noOperation, lastOperation, isDummy, operationSound, dummySound, wellFormed, initialMstatus, dummy, resetHart, bootHart}
+use Rattle.confidential_hart.specs.Hart.{noVm, theVm, noOperation, lastOperation, isDummy, withOperation, operationSound, dummySound, wellFormed, initialMstatus, dummy, resetHart, bootHart}
 use Rattle.hart_lifecycle_state.specs.Lifecycle.{started, poweredOff}
 
 -- ---- a well-formed record
@@ -72,6 +72,25 @@ facts-formed h f =
     and-both
     (and-both (eq-eqb _ _ (f .dummy-started (eqb-true _ _ p))) (eq-eqb _ _ (f .dummy-waits-not (eqb-true _ _ p))))
     (f .dummy-blank (eqb-true _ _ p))))
+
+module _ (h : ConfidentialHart) (w : wellFormed h ≡ true) (real : isDummy h ≡ false) (operation x y : ℕ) where
+  -- a real hart's record stays well formed with an operation there is, or with none and two zeros
+  pub operation-formed : operation ≤ lastOperation → (operation ≡ noOperation → x ≡ 0) → (operation ≡ noOperation → y ≡ 0)
+      → wellFormed (withOperation operation x y h) ≡ true
+  operation-formed known no-x no-y =
+      let f = formed-facts h w in
+      let of-vm = eqb-false _ _ real in
+      facts-formed (withOperation operation x y h)
+      (record {
+        vm-known = f .vm-known;
+        state-known = f .state-known;
+        operation-known = known;
+        x-absent = no-x;
+        y-absent = no-y;
+        dummy-started = λ p. absurd (of-vm p);
+        dummy-waits-not = λ p. absurd (of-vm p);
+        dummy-blank = λ p. absurd (of-vm p);
+      })
 
 -- as setup makes it
 pub dummy-formed : (k : ℕ) → wellFormed (dummy k) ≡ true

@@ -39,6 +39,14 @@ isDummy h = eqb (h .vm) noVm
 abbrev pub isExecutable : ConfidentialHart → Bool
 isExecutable h = eqb (h .lifecycle) started || eqb (h .lifecycle) suspended
 
+-- the kinds of operations that a hart can wait for
+abbrev pub isOperation : ℕ → Bool
+isOperation kind = not (eqb kind noOperation) && leb kind lastOperation
+
+-- the record with another operation and its two numbers
+abbrev pub withOperation : ℕ → ℕ → ℕ → ConfidentialHart → ConfidentialHart
+withOperation operation x y h = hartOf (h .vm) (h .id) (h .lifecycle) operation x y (h .registers)
+
 -- an absent operation has two zeros
 abbrev pub operationSound : ConfidentialHart → Bool
 operationSound h = not (eqb (h .operation) noOperation) || (eqb (h .x) 0 && eqb (h .y) 0)

@@ -6,7 +6,7 @@
 ghost use mathlib.Core.Path.{_≡_};
 ghost use Prim.Native.Nat.{_<_};
 ghost use lib.ListN.{length};
-ghost use Rattle.confidential_hart.specs.Hart.{hartOf, isDummy, wellFormed, dummy, resetHart, bootHart};
+ghost use Rattle.confidential_hart.specs.Hart.{noOperation, hartOf, isDummy, withOperation, wellFormed, dummy, resetHart, bootHart};
 ghost use Rattle.hart_lifecycle_state.specs.Lifecycle.{changes, changeOf};
 ghost use Rattle.confidential_hart.specs.Transition.{transition, afterStart, afterSuspend, afterStop, afterWake, afterOff};
 use hart_lifecycle_state::OFF;
@@ -268,5 +268,22 @@ impl ConfidentialHart {
         ensures { λ r. ⌜ r ≡ afterOff self ⌝ }
     {
         self.change(OFF, error::HARDWARE_HART_IDLE)
+    }
+
+    // Sets the operation that the hart waits for, whatever stood there: who asks has seen that none is pending.
+    pub fn set_resumable_operation(mut self, operation: u64, x: u64, y: u64) -> ConfidentialHart
+        ensures { λ r. ⌜ r ≡ withOperation operation x y self ⌝ }
+    {
+        self.operation = operation;
+        self.x = x;
+        self.y = y;
+        self
+    }
+
+    // Takes the operation: afterwards there is none. Who asks has read it.
+    pub fn take_resumable_operation(mut self) -> ConfidentialHart
+        ensures { λ r. ⌜ r ≡ withOperation noOperation 0 0 self ⌝ }
+    {
+        self.set_resumable_operation(NO_OPERATION, 0, 0)
     }
 }

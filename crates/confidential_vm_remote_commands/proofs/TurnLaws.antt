@@ -23,7 +23,7 @@ use Rattle.remote_commands.specs.Queue.{maxCommands, queueWords, count, offered
 use Rattle.remote_commands.proofs.OfferLaws.{by-offer}
 use Rattle.hart_rows.specs.Rows.{hartAt}
 use Rattle.monitor_requests.specs.declared.Answer.{Answer}
-use Rattle.monitor_requests.specs.declared.Answer.the-variants.{Refused, Done, Mask, State, Flag}
+use Rattle.monitor_requests.specs.declared.Answer.the-variants.{Refused, Done, Mask, State, Flag, Count, Run, PoweredOff, Operation}
 use Rattle.monitor_requests.specs.Requests.{receives, interrupting, Delivery, delivery, deliver}
 
 -- ---- an offer's number tells whether the queue was full
@@ -88,6 +88,10 @@ after Done queues rest = delivery Done queues
 after (Mask mask) queues rest = rest mask queues
 after (State state) queues rest = delivery (State state) queues
 after (Flag flag) queues rest = delivery (Flag flag) queues
+after (Count count) queues rest = delivery (Count count) queues
+after Run queues rest = delivery Run queues
+after PoweredOff queues rest = delivery PoweredOff queues
+after (Operation kind x y) queues rest = delivery (Operation kind x y) queues
 
 abbrev andThen : Delivery → (ℕ → List ℕ → Delivery) → Delivery
 andThen d rest = after (d .answer) (d .queues) rest
@@ -99,6 +103,10 @@ no-mask Done queues rest ne = refl
 no-mask (Mask mask) queues rest ne = absurd (ne mask refl)
 no-mask (State state) queues rest ne = refl
 no-mask (Flag flag) queues rest ne = refl
+no-mask (Count count) queues rest ne = refl
+no-mask Run queues rest ne = refl
+no-mask PoweredOff queues rest ne = refl
+no-mask (Operation kind x y) queues rest ne = refl
 
 then-pick : (b : Bool) (x y : Delivery) (rest : ℕ → List ℕ → Delivery) → pick b (andThen x rest) (andThen y rest) ≡ andThen (pick b x y) rest
 unfolding pick

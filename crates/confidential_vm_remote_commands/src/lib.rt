@@ -86,8 +86,8 @@ fn deliver(
     Answer::Mask(mask)
 }
 
-// The broadcast over sound tables.
-fn broadcast(
+// The broadcast over sound tables, for a caller that has judged them.
+pub fn broadcast(
     sender: u64,
     c: ConfidentialHartRemoteCommand,
     head: &[u64],

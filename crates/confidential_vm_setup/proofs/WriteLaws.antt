@@ -6,12 +6,11 @@ use native.Mathlib.Nat.{le-antisymm, sub-zero}
 use lib.ListN.{length, take, drop, replicate, length-replicate}
 use lib.Seq.{length-take-le}
 use borrow.Rule.Slice.PartMut.{putMid}
-use Rattle.table_rows.specs.Rows.{put, rowsOf}
+use Rattle.table_rows.specs.Rows.{put, rowsOf, over}
 use Rattle.table_rows.proofs.RunLaws.{run-next}
 use Rattle.confidential_hart.specs.declared.ConfidentialHart.{ConfidentialHart}
 use Rattle.hart_rows.specs.Rows.{hartWords, toWords}
 use Rattle.hart_rows.proofs.HartRowLaws.{to-length}
-use Rattle.monitor_requests.specs.Requests.{over}
 
 -- the records that f gives, in the first n rows
 abbrev pub harts : (ℕ → ConfidentialHart) → ℕ → List ℕ → List ℕ

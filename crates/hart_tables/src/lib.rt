@@ -15,6 +15,7 @@ use hart_lifecycle_state::SUSPENDED;
 use hart_rows::HART_WORDS;
 use hart_rows::ID_WORD;
 use hart_rows::LIFECYCLE_WORD;
+use hart_rows::OPERATION_WORD;
 use hart_rows::VM_WORD;
 
 // The VM of the hart in row `i`.
@@ -39,6 +40,14 @@ pub fn lifecycle(rows: &[u64], i: usize) -> u64
     ensures { λ r. ⌜ r ≡ hartAt (now (rows .entry)) i .lifecycle ⌝ }
 {
     table_rows::word(rows, HART_WORDS, i, LIFECYCLE_WORD)
+}
+
+// The operation that the hart in row `i` waits for.
+pub fn operation(rows: &[u64], i: usize) -> u64
+    requires { ⌜ i * hartWords + hartWords ≤ length (now rows) ⌝ }
+    ensures { λ r. ⌜ r ≡ hartAt (now (rows .entry)) i .operation ⌝ }
+{
+    table_rows::word(rows, HART_WORDS, i, OPERATION_WORD)
 }
 
 // Whether row `i` holds a dummy.

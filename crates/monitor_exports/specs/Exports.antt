@@ -13,7 +13,8 @@ use Rattle.monitor_requests.specs.declared.Request.{Request}
 use Rattle.monitor_requests.specs.declared.Answer.{Answer}
 use Rattle.monitor_requests.specs.Tables.{Tables}
 use Rattle.monitor_requests.specs.Answers.{given}
-use Rattle.monitor_requests.specs.Requests.{Outcome, over, performed}
+use Rattle.table_rows.specs.Rows.{over}
+use Rattle.monitor_requests.specs.Requests.{Outcome, performed}
 
 -- ---- plain numbers as what a request takes
 
@@ -53,13 +54,13 @@ numberIn o = numbered (given (o .answer) .number) (o .after)
 abbrev pub unvalued : Request → Tables → Numbered
 unvalued r t = numberIn (performed r t)
 
--- ---- a request whose answer may have a value
+-- ---- a request whose answer may have values
 
--- how many words a value has
+-- how many words the values of any answer have room in
 abbrev pub valueWords : ℕ
-valueWords = 1
+valueWords = 4
 
--- the number, and the words lent for the value
+-- the number, and the words lent for the values
 pub record Written : Type 0 where
   pub number : ℕ
   pub value : List ℕ
@@ -72,7 +73,7 @@ written number value = record { number = number; value = value }
 abbrev pub told : Answer → List ℕ → Written
 told answer words = written (given answer .number) (over (given answer .values) words)
 
--- the number, the words lent for the value, and the tables afterwards
+-- the number, the words lent for the values, and the tables afterwards
 pub record Exported : Type 0 where
   pub number : ℕ
   pub value : List ℕ
@@ -86,6 +87,6 @@ exported number value after = record { number = number; value = value; after = a
 abbrev pub valueIn : Outcome → List ℕ → Exported
 valueIn o words = exported (told (o .answer) words .number) (told (o .answer) words .value) (o .after)
 
--- what the request does; 13 and nothing where there is no room for a value
+-- what the request does; 13 and nothing where there is too little room for values
 abbrev pub valued : Request → List ℕ → Tables → Exported
 valued r words t = pick (ltb (length words) valueWords) (exported roomTooShort words t) (valueIn (performed r t) words)

@@ -1,4 +1,4 @@
-// The entries as C functions: plain numbers and lent tables in, and document 01's number back. An answer's value goes to the first word of one
+// The entries as C functions: plain numbers and lent tables in, and document 01's number back. An answer's values go over the front of one
 // more lent slice. Each promises what the entry that it calls promises, for any numbers and any tables.
 ghost use mathlib.Core.Path.{_≡_};
 ghost use mathlib.Core.List.{[], _∷_};
@@ -8,7 +8,8 @@ ghost use Rattle.table_rows.specs.Choice.{pick};
 ghost use Rattle.error.specs.Error.{done};
 ghost use Rattle.monitor_requests.specs.declared.Request.the-variants.{Setup as RequestSetup, Steal, Return, Start, Status, Home, Send, Allow, Add, Remove, Defined};
 ghost use Rattle.monitor_requests.specs.Tables.{tables, sound};
-ghost use Rattle.monitor_requests.specs.Requests.{over};
+ghost use Rattle.monitor_requests.specs.Answers.{op};
+ghost use Rattle.table_rows.specs.Rows.{over};
 ghost use Rattle.monitor_exports.specs.Exports.{hartId, hardwareHartId, setupOf, commandOf, valueWords, written, told, exported, valued, numbered, unvalued};
 use confidential_hart::ConfidentialHartId;
 use confidential_hart::HardwareHartId;
@@ -16,8 +17,15 @@ use confidential_hart_remote_command::ConfidentialHartRemoteCommand;
 use monitor_requests::Answer;
 use monitor_requests::Setup;
 
-// The words of an answer's value.
-const VALUE_WORDS: usize = 1;
+// How many words are asked for an answer's values: an operation has the most.
+const VALUE_WORDS: usize = 4;
+
+// The first value of an answer that says what a hart goes on with.
+const RUN: u64 = 0;
+
+const OFF: u64 = 1;
+
+const OP: u64 = 2;
 
 // A truth as a number: 1 or 0.
 fn word_of(flag: bool) -> u64
@@ -38,7 +46,19 @@ fn tell_value(word: u64, value: &mut [u64]) -> u64
     error::DONE
 }
 
-// Writes the value of an answer, where it has one, and gives its number.
+// Writes what says that an operation is over, its kind and its two numbers, and gives 0.
+fn tell_operation(kind: u64, x: u64, y: u64, value: &mut [u64]) -> u64
+    requires { ⌜ valueWords ≤ length (now value) ⌝ }
+    ensures { λ r. ⌜ written r (now (value .exit)) ≡ written done (over (op ∷ kind ∷ x ∷ y ∷ []) (now (value .entry))) ⌝ }
+{
+    value[0] = OP;
+    value[1] = kind;
+    value[2] = x;
+    value[3] = y;
+    error::DONE
+}
+
+// Writes the values of an answer, and gives its number.
 fn tell(answer: Answer, value: &mut [u64]) -> u64
     requires { ⌜ valueWords ≤ length (now value) ⌝ }
     ensures { λ r. ⌜ written r (now (value .exit)) ≡ told answer (now (value .entry)) ⌝ }
@@ -49,6 +69,10 @@ fn tell(answer: Answer, value: &mut [u64]) -> u64
         Answer::Mask(mask) => tell_value(mask, value),
         Answer::State(state) => tell_value(state, value),
         Answer::Flag(flag) => tell_value(word_of(flag), value),
+        Answer::Count(count) => tell_value(count, value),
+        Answer::Run => tell_value(RUN, value),
+        Answer::PoweredOff => tell_value(OFF, value),
+        Answer::Operation(kind, x, y) => tell_operation(kind, x, y, value),
     }
 }
 

@@ -29,12 +29,12 @@ use Rattle.hart_lifecycle_state.specs.Lifecycle.{started}
 use Rattle.hart_rows.specs.Rows.{hartAt}
 use Rattle.monitor_requests.specs.declared.Request.the-variants.{Send}
 use Rattle.monitor_requests.specs.declared.Answer.{Answer}
-use Rattle.monitor_requests.specs.declared.Answer.the-variants.{Refused, Done, Mask, State, Flag}
+use Rattle.monitor_requests.specs.declared.Answer.the-variants.{Refused, Done, Mask, State, Flag, Count, Run, PoweredOff, Operation}
 use Rattle.monitor_requests.specs.Answers.{given}
 use Rattle.monitor_requests.specs.Tables.{Tables, harts, homeHart, queue, maxHardwareHarts, sound}
 use Rattle.monitor_requests.specs.Requests.{Outcome, outcome, tests, withQueues, receives, interrupting, Delivery, delivery, deliver, broadcast, effect, performed}
 use Rattle.monitor_requests.proofs.JudgedLaws.{unsound-refused}
-use Rattle.monitor_requests.proofs.SoundLaws.{sound-facts, facts-sound, home-formed, away-names}
+use Rattle.monitor_requests.proofs.SoundLaws.{sound-facts, queues-sound, home-formed, away-names}
 
 -- ---- the request on sound tables, by its two ways
 
@@ -402,6 +402,10 @@ maskIn Done = 0
 maskIn (Mask mask) = mask
 maskIn (State state) = 0
 maskIn (Flag flag) = 0
+maskIn (Count count) = 0
+maskIn Run = 0
+maskIn PoweredOff = 0
+maskIn (Operation kind x y) = 0
 
 abbrev masked : Answer → Bool
 masked (Refused e) = false
@@ -409,6 +413,10 @@ masked Done = false
 masked (Mask mask) = true
 masked (State state) = false
 masked (Flag flag) = false
+masked (Count count) = false
+masked Run = false
+masked PoweredOff = false
+masked (Operation kind x y) = false
 
 told-mask : (b : Bool) (e : Error) (m mask : ℕ) → pick b (Refused e) (Mask m) ≡ Mask mask → (b ≡ false) × (m ≡ mask)
 unfolding pick
@@ -573,31 +581,12 @@ module _ (sender : ℕ) (c : ConfidentialHartRemoteCommand) (t : Tables) where
     pub broadcast-sound : wellFormed c ≡ true → sound (withQueues (broadcast sender c t .queues) t) ≡ true
     broadcast-sound w =
         let f = sound-facts t s in
-        facts-sound (withQueues (broadcast sender c t .queues) t)
-        (record {
-          sized = record {
-            some-harts = f .sized .some-harts;
-            few-harts = f .sized .few-harts;
-            some-hardware = f .sized .some-hardware;
-            few-hardware = f .sized .few-hardware;
-            few-regions = f .sized .few-regions;
-            long = record {
-              head-long = f .sized .long .head-long;
-              home-long = f .sized .long .home-long;
-              hardware-long = f .sized .long .hardware-long;
-              queues-long = rw broadcast-length (f .sized .long .queues-long);
-              regions-long = f .sized .long .regions-long;
-            };
-          };
-          home-row = f .home-row;
-          hardware-row = f .hardware-row;
-          queue-formed = λ h l.
-              rw (queue-after h l)
-              (by-pick (λ (q : List ℕ). queueWellFormed q ≡ true) (delivers h) _ _
-              (λ d. offer-well-formed (queue t h) c (row-length queueWords (t .queues) h (row-fits h l)) w (f .queue-formed h l))
-              (λ d. f .queue-formed h l));
-          regions-sound = f .regions-sound;
-        })
+        queues-sound t s (broadcast sender c t .queues) broadcast-length
+        (λ h l.
+        rw (queue-after h l)
+        (by-pick (λ (q : List ℕ). queueWellFormed q ≡ true) (delivers h) _ _
+        (λ d. offer-well-formed (queue t h) c (row-length queueWords (t .queues) h (row-fits h l)) w (f .queue-formed h l))
+        (λ d. f .queue-formed h l)))
 
 -- sound tables stay sound
 pub send-sound : (sender : ℕ) (c : ConfidentialHartRemoteCommand) (t : Tables) → sound t ≡ true → sound (performed (Send sender c) t .after) ≡ true

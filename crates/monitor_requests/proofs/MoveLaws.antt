@@ -1,33 +1,31 @@
--- A steal, a return and a start keep tables sound. Assumes nothing.
+-- A steal, a return, a start and what is asked of a held hart keep tables sound. Assumes nothing.
 use Prim.Native.Nat.{ℕ, _+_, _*_, _≤_, _<_}
 use mathlib.Core.Path.{_≡_, refl, sym, ap, _∙_}
 use mathlib.Core.Logic.{_≢_}
-use mathlib.Core.Bool.{true}
+use mathlib.Core.Bool.{true, false, not}
 use mathlib.Core.List.{List}
 use native.Mathlib.Omega.{arith}
 use lib.ListN.{length}
 use lib.Dec.{eqb}
-use borrow.Author.Tests.{eqb-true, eqb-false, leb-false, not-false}
+use borrow.Author.Tests.{eqb-true, eqb-false, leb-true, leb-false, not-true, not-false}
 use Rattle.table_rows.specs.Rows.{row, put}
-use Rattle.table_rows.proofs.PickLaws.{by-test}
+use Rattle.table_rows.proofs.PickLaws.{by-test, and-left, and-right}
 use Rattle.table_rows.proofs.RowLaws.{within, row-length, put-length, row-put-same, row-put-other}
-use Rattle.hart_lifecycle_state.specs.Lifecycle.{start}
+use Rattle.hart_lifecycle_state.specs.Lifecycle.{changeOf}
 use Rattle.hart_lifecycle_state.proofs.LifecycleLaws.{told}
-use Rattle.error.specs.Error.{hartAlreadyRunning}
 use Rattle.confidential_hart.specs.declared.ConfidentialHart.{ConfidentialHart}
 use Rattle.confidential_hart.specs.declared.ConfidentialHartId.{ConfidentialHartId}
 use Rattle.confidential_hart.specs.declared.HardwareHartId.{HardwareHartId}
-use Rattle.confidential_hart.specs.Hart.{noVm, theVm, registerCount, wellFormed}
-use Rattle.confidential_hart.specs.HartStart.{startRegisters}
-use Rattle.confidential_hart.specs.Transition.{afterStart}
-use Rattle.confidential_hart.proofs.HartLaws.{formed-facts}
-use Rattle.confidential_hart.proofs.StartLaws.{start-started}
+use Rattle.confidential_hart.specs.Hart.{noVm, theVm, registerCount, noOperation, lastOperation, isDummy, withOperation, wellFormed}
+use Rattle.confidential_hart.specs.Transition.{transition, afterOff}
+use Rattle.confidential_hart.proofs.HartLaws.{formed-facts, operation-formed}
+use Rattle.confidential_hart.proofs.StartLaws.{start-length, wake-length}
 use Rattle.confidential_hart.proofs.TransitionLaws.{transition-keeps, transition-length, transition-formed}
 use Rattle.hart_rows.specs.Rows.{hartWords, fromWords, toWords, hartAt}
 use Rattle.hart_rows.proofs.HartRowLaws.{to-length, load-store, load-store-other}
-use Rattle.monitor_requests.specs.declared.Request.the-variants.{Steal, Return, Start}
+use Rattle.monitor_requests.specs.declared.Request.the-variants.{Steal, Return, Start, Suspend, Stop, Wake, Off, Await}
 use Rattle.monitor_requests.specs.Tables.{Tables, tables, harts, hardwareHarts, homeHart, hardwareHart, rowSound, homeRowSound, hardwareRowSound, sound, Sized}
-use Rattle.monitor_requests.specs.Requests.{withHome, exchanged, tests, effect, performed}
+use Rattle.monitor_requests.specs.Requests.{withHome, withHeld, exchanged, tests, effect, performed}
 use Rattle.monitor_requests.proofs.JudgedLaws.{effect-sound}
 use Rattle.monitor_requests.proofs.SoundLaws.{
   Names,
@@ -38,7 +36,6 @@ use Rattle.monitor_requests.proofs.SoundLaws.{
   sound-names,
   Sound,
   sound-facts,
-  sound-sized,
   facts-sound,
   home-formed,
   hardware-formed,
@@ -280,64 +277,110 @@ module _ (t : Tables) (s : sound t ≡ true) (h k : ℕ) (lh : h < harts t) (lk 
       idle
       ik)
 
--- ---- a record of a home row written anew
+-- ---- a record written anew, said of one table: by turning the two about it is said of the other
 
-module _ (t : Tables) (s : sound t ≡ true) (h : ℕ) (lh : h < harts t) (y : ConfidentialHart) (six : length (y .registers) ≡ registerCount)
-    (w : wellFormed y ≡ true) (same : Alike (homeHart t h) y) where
-  fits : (i : ℕ) → i < harts t → i * hartWords + hartWords ≤ length (t .home)
-  fits i l = home-fits t (sound-sized t s) i l
+module _ (own other : ℕ) (a b : List ℕ) (n m : ℕ) (fits : (i : ℕ) → i < n → i * hartWords + hartWords ≤ length a)
+    (sound-a : (i : ℕ) → i < n → rowSound own a b m i ≡ true) (sound-b : (j : ℕ) → j < m → rowSound other b a n j ≡ true) (i : ℕ) (l : i < n)
+    (y : ConfidentialHart) (six : length (y .registers) ≡ registerCount) (w : wellFormed y ≡ true) (same : Alike (hartAt a i) y) where
+  -- the rows with y in row i
+  abbrev a′ : List ℕ
+  a′ = put hartWords a i (toWords y)
 
-  abbrev home′ : List ℕ
-  home′ = put hartWords (t .home) h (toWords y)
+  all-alike : (j : ℕ) → j < n → Alike (hartAt a j) (hartAt a′ j)
+  all-alike j lj =
+      by-test (eqb j i)
+      (λ e. rw (eqb-true j i e, load-store a i (fits i l) y six) same)
+      (λ e. alike (load-store-other a i (fits i l) y j (eqb-false j i e) (fits j lj)))
 
-  home-alike : (i : ℕ) → i < harts t → Alike (homeHart t i) (hartAt home′ i)
-  home-alike i l =
-      by-test (eqb i h)
-      (λ e. rw (eqb-true i h e, load-store (t .home) h (fits h lh) y six) same)
-      (λ e. alike (load-store-other (t .home) h (fits h lh) y i (eqb-false i h e) (fits i l)))
+  all-formed : (j : ℕ) → j < n → wellFormed (hartAt a′ j) ≡ true
+  all-formed j lj =
+      by-test (eqb j i)
+      (λ e. rw (eqb-true j i e, load-store a i (fits i l) y six) w)
+      (λ e. rw (load-store-other a i (fits i l) y j (eqb-false j i e) (fits j lj)) (row-formed own a b m j (sound-a j lj)))
 
-  homes-formed : (i : ℕ) → i < harts t → wellFormed (hartAt home′ i) ≡ true
-  homes-formed i l =
-      by-test (eqb i h)
-      (λ e. rw (eqb-true i h e, load-store (t .home) h (fits h lh) y six) w)
-      (λ e.
-      rw (load-store-other (t .home) h (fits h lh) y i (eqb-false i h e) (fits i l)) (home-formed t s i l))
+  -- they stay sound where y is well formed and ties as the old record
+  pub written-rows : (j : ℕ) → j < n → rowSound own a′ b m j ≡ true
+  written-rows j lj = row-kept own a b a′ b m j (sound-a j lj) (all-formed j lj) (all-alike j lj) (λ r. alike refl)
 
-  -- the tables stay sound where the new record is well formed and ties as the old one
-  pub home-written-sound : sound (withHome home′ t) ≡ true
-  home-written-sound =
-      let f = sound-facts t s in
-      rows-sound t f home′ (t .hardware) (put-length hartWords (t .home) h (fits h lh) (toWords y) (to-length y)) refl
-      (λ i l.
-      row-kept theVm (t .home) (t .hardware) home′ (t .hardware) (hardwareHarts t) i (f .home-row i l) (homes-formed i l) (home-alike i l)
-      (λ r. alike refl))
-      (λ k l.
-      row-kept noVm (t .hardware) (t .home) (t .hardware) home′ (harts t) k (f .hardware-row k l)
-      (hardware-formed t s k l)
-      (alike refl)
-      (λ r. home-alike (hardwareHart t k .id) (r .there)))
+  -- so do those of the other table
+  pub naming-rows : (j : ℕ) → j < m → rowSound other b a′ n j ≡ true
+  naming-rows j lj =
+      row-kept other b a b a′ n j (sound-b j lj) (row-formed other b a n j (sound-b j lj)) (alike refl)
+      (λ r. all-alike (hartAt b j .id) (r .there))
 
--- a start: the record keeps its VM and its number, and stays well formed
-module _ (t : Tables) (s : sound t ≡ true) (h : ℕ) (lh : h < harts t) (address opaque : ℕ) where
-  abbrev before : ConfidentialHart
-  before = homeHart t h
+  -- they are as long as before
+  pub written-long : length a′ ≡ length a
+  written-long = put-length hartWords a i (fits i l) (toWords y) (to-length y)
 
-  abbrev registers : List ℕ
-  registers = startRegisters (before .id) address opaque (before .registers)
+module _ (t : Tables) (s : sound t ≡ true) (i : ℕ) (y : ConfidentialHart) (six : length (y .registers) ≡ registerCount) (w : wellFormed y ≡ true) where
+  abbrev facts : Sound t
+  facts = sound-facts t s
 
-  six-before : length (before .registers) ≡ registerCount
-  unfolding hartAt
-  six-before = refl
+  -- a home row
+  pub home-written-sound : i < harts t → Alike (homeHart t i) y → sound (withHome (put hartWords (t .home) i (toWords y)) t) ≡ true
+  home-written-sound l same =
+      let fits = home-fits t (facts .sized) in
+      rows-sound t facts (put hartWords (t .home) i (toWords y)) (t .hardware)
+      (written-long theVm noVm (t .home) (t .hardware) (harts t) (hardwareHarts t) fits (facts .home-row) (facts .hardware-row) i l y six w same)
+      refl
+      (written-rows theVm noVm (t .home) (t .hardware) (harts t) (hardwareHarts t) fits (facts .home-row) (facts .hardware-row) i l y six w same)
+      (naming-rows theVm noVm (t .home) (t .hardware) (harts t) (hardwareHarts t) fits (facts .home-row) (facts .hardware-row) i l y six w same)
 
-  started-sound : sound (withHome (put hartWords (t .home) h (toWords (afterStart address opaque before .hart))) t) ≡ true
-  started-sound =
-      let kept = transition-keeps start hartAlreadyRunning before registers in
-      home-written-sound t s h lh (afterStart address opaque before .hart)
-      (transition-length start hartAlreadyRunning before registers
-      (start-started (before .registers) six-before (before .id) address opaque .as-many)
-      ∙ six-before)
-      (transition-formed start hartAlreadyRunning before (told 0 (before .lifecycle)) registers (home-formed t s h lh))
-      (record { vm-same = kept .vm-kept; id-same = kept .id-kept })
+  -- a hardware row
+  pub held-written-sound : i < hardwareHarts t → Alike (hardwareHart t i) y → sound (withHeld i y t) ≡ true
+  held-written-sound l same =
+      let fits = hardware-fits t (facts .sized) in
+      rows-sound t facts (t .home) (put hartWords (t .hardware) i (toWords y)) refl
+      (written-long noVm theVm (t .hardware) (t .home) (hardwareHarts t) (harts t) fits (facts .hardware-row) (facts .home-row) i l y six w same)
+      (naming-rows noVm theVm (t .hardware) (t .home) (hardwareHarts t) (harts t) fits (facts .hardware-row) (facts .home-row) i l y six w same)
+      (written-rows noVm theVm (t .hardware) (t .home) (hardwareHarts t) (harts t) fits (facts .hardware-row) (facts .home-row) i l y six w same)
+
+-- a record of a table has six registers
+pub six-registers : (rows : List ℕ) (i : ℕ) → length (hartAt rows i .registers) ≡ registerCount
+unfolding hartAt
+six-registers rows i = refl
+
+-- a transition keeps the record's VM and its number, and the record stays well formed
+module _ (t : Tables) (s : sound t ≡ true) (c idle : ℕ) (g : List ℕ) (i : ℕ) where
+  changed-alike : (h : ConfidentialHart) → Alike h (transition (changeOf c) idle g h .hart)
+  changed-alike h =
+      let kept = transition-keeps (changeOf c) idle h g in
+      record { vm-same = kept .vm-kept; id-same = kept .id-kept }
+
+  -- of a hart at home
+  pub home-changed-sound : i < harts t → length g ≡ length (homeHart t i .registers)
+      → sound (withHome (put hartWords (t .home) i (toWords (transition (changeOf c) idle g (homeHart t i) .hart))) t) ≡ true
+  home-changed-sound l long =
+      home-written-sound t s i (transition (changeOf c) idle g (homeHart t i) .hart)
+      (transition-length (changeOf c) idle (homeHart t i) g long ∙ six-registers (t .home) i)
+      (transition-formed (changeOf c) idle (homeHart t i) (told c (homeHart t i .lifecycle)) g (home-formed t s i l))
+      l
+      (changed-alike (homeHart t i))
+
+  -- of a held hart
+  pub held-changed-sound : i < hardwareHarts t → length g ≡ length (hardwareHart t i .registers)
+      → sound (withHeld i (transition (changeOf c) idle g (hardwareHart t i) .hart) t) ≡ true
+  held-changed-sound l long =
+      held-written-sound t s i (transition (changeOf c) idle g (hardwareHart t i) .hart)
+      (transition-length (changeOf c) idle (hardwareHart t i) g long ∙ six-registers (t .hardware) i)
+      (transition-formed (changeOf c) idle (hardwareHart t i) (told c (hardwareHart t i .lifecycle)) g (hardware-formed t s i l))
+      l
+      (changed-alike (hardwareHart t i))
+
+module _ (t : Tables) (s : sound t ≡ true) (k : ℕ) (l : k < hardwareHarts t) where
+  -- a held hart that is powered off
+  pub off-held-sound : sound (withHeld k (afterOff (hardwareHart t k) .hart) t) ≡ true
+  off-held-sound = held-changed-sound t s 4 _ _ k l refl
+
+  -- a held hart with an operation there is, or with none and two zeros
+  pub operation-held-sound : isDummy (hardwareHart t k) ≡ false → (operation x y : ℕ) → operation ≤ lastOperation → (operation ≡ noOperation → x ≡ 0)
+      → (operation ≡ noOperation → y ≡ 0)
+      → sound (withHeld k (withOperation operation x y (hardwareHart t k)) t) ≡ true
+  operation-held-sound real operation x y known no-x no-y =
+      held-written-sound t s k (withOperation operation x y (hardwareHart t k)) (six-registers (t .hardware) k)
+      (operation-formed (hardwareHart t k) (hardware-formed t s k l) real operation x y known no-x no-y)
+      l
+      (record { vm-same = refl; id-same = refl })
 
 -- ---- the requests
 
@@ -364,4 +407,37 @@ pub start-sound : (hart : ConfidentialHartId) (address opaque : ℕ) (t : Tables
     → sound (performed (Start hart address opaque) t .after) ≡ true
 unfolding tests effect
 start-sound hart address opaque t s =
-    effect-sound (Start hart address opaque) t s (λ p. started-sound t s (hart .0) (leb-false _ _ (p .1 .0)) address opaque)
+    effect-sound (Start hart address opaque) t s (λ p.
+    home-changed-sound t s 0 _ _ (hart .0) (leb-false _ _ (p .1 .0))
+    (start-length (homeHart t (hart .0) .id) address opaque (homeHart t (hart .0) .registers)))
+
+-- so do a suspend, a stop, a wake and an off
+pub suspend-sound : (on : HardwareHartId) (t : Tables) → sound t ≡ true → sound (performed (Suspend on) t .after) ≡ true
+unfolding tests effect
+suspend-sound on t s = effect-sound (Suspend on) t s (λ p. held-changed-sound t s 1 _ _ (on .0) (leb-false _ _ (p .1 .0)) refl)
+
+pub stop-sound : (on : HardwareHartId) (t : Tables) → sound t ≡ true → sound (performed (Stop on) t .after) ≡ true
+unfolding tests effect
+stop-sound on t s = effect-sound (Stop on) t s (λ p. held-changed-sound t s 2 _ _ (on .0) (leb-false _ _ (p .1 .0)) refl)
+
+pub wake-sound : (on : HardwareHartId) (address opaque : ℕ) (t : Tables) → sound t ≡ true → sound (performed (Wake on address opaque) t .after) ≡ true
+unfolding tests effect
+wake-sound on address opaque t s =
+    effect-sound (Wake on address opaque) t s (λ p.
+    held-changed-sound t s 3 _ _ (on .0) (leb-false _ _ (p .1 .0)) (wake-length address opaque (hardwareHart t (on .0) .registers)))
+
+pub off-sound : (on : HardwareHartId) (t : Tables) → sound t ≡ true → sound (performed (Off on) t .after) ≡ true
+unfolding tests effect
+off-sound on t s = effect-sound (Off on) t s (λ p. off-held-sound t s (on .0) (leb-false _ _ (p .1 .0)))
+
+-- and an await
+pub await-sound : (on : HardwareHartId) (kind x y : ℕ) (t : Tables) → sound t ≡ true → sound (performed (Await on kind x y) t .after) ≡ true
+unfolding tests effect
+await-sound on kind x y t s =
+    effect-sound (Await on kind x y) t s (λ p.
+    let known = not-false _ (p .1 .0) in
+    let some = eqb-false _ _ (not-true _ (and-left (not (eqb kind noOperation)) _ known)) in
+    operation-held-sound t s (on .0) (leb-false _ _ (p .1 .1 .0)) (p .1 .1 .1 .0) kind x y
+    (leb-true _ _ (and-right (not (eqb kind noOperation)) _ known))
+    (λ e. absurd (some e))
+    (λ e. absurd (some e)))

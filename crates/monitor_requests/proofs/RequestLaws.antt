@@ -32,6 +32,11 @@ use Rattle.monitor_requests.specs.declared.Request.the-variants.{
   Steal,
   Return,
   Start,
+  Suspend,
+  Stop,
+  Wake,
+  Off,
+  Await,
   Status,
   Home,
   Send,
@@ -42,7 +47,7 @@ use Rattle.monitor_requests.specs.declared.Request.the-variants.{
 }
 use Rattle.monitor_requests.specs.declared.Setup as declared
 use Rattle.monitor_requests.specs.declared.Answer.{Answer}
-use Rattle.monitor_requests.specs.declared.Answer.the-variants.{Refused, Done, Mask, State, Flag}
+use Rattle.monitor_requests.specs.declared.Answer.the-variants.{Refused, Done, Mask, State, Flag, Count, Run, PoweredOff, Operation}
 use Rattle.monitor_requests.specs.Answers.{given}
 use Rattle.monitor_requests.specs.Tables.{
   Tables,
@@ -61,10 +66,12 @@ use Rattle.monitor_requests.specs.Requests.{
   outcome,
   Test,
   judged,
+  refusedOn,
   regionFrom,
   tests,
   withHead,
   withHome,
+  withHeld,
   withQueues,
   withRegions,
   exchanged,
@@ -87,7 +94,20 @@ use Rattle.monitor_requests.proofs.JudgedLaws.{
   sound-judged,
 }
 use Rattle.monitor_requests.proofs.SoundLaws.{sound-sized, held-names}
-use Rattle.monitor_requests.proofs.MoveLaws.{home-fits, home-long, hardware-long, steal-sound, return-sound, start-sound}
+use Rattle.monitor_requests.proofs.MoveLaws.{
+  home-fits,
+  hardware-fits,
+  home-long,
+  hardware-long,
+  steal-sound,
+  return-sound,
+  start-sound,
+  suspend-sound,
+  stop-sound,
+  wake-sound,
+  off-sound,
+  await-sound,
+}
 use Rattle.monitor_requests.proofs.SetupLaws.{
   Accepted,
   accepted,
@@ -106,7 +126,7 @@ use Rattle.monitor_requests.proofs.BroadcastLaws.{by-turns, broadcast-l
 -- a setup that passes its tests is accepted
 passed-accepted : (s : declared.Setup) (t : Tables) → Passed (tests (Setup s) t) → Accepted s t
 unfolding performed effect
-passed-accepted s t p = accepted s t (ap (λ (o : Outcome). o .answer) (judged-passed t (effect (Setup s) t) (tests (Setup s) t) p))
+passed-accepted s t p = accepted s t (ap (λ (o : Outcome). o .answer) (judged-passed (refusedOn t) (effect (Setup s) t) (tests (Setup s) t) p))
 
 -- every request leaves sound tables sound
 pub performed-sound : (r : Request) (t : Tables) → sound t ≡ true → sound (performed r t .after) ≡ true
@@ -115,6 +135,11 @@ performed-sound (Setup s) t f = effect-sound (Setup s) t f (λ p. fresh-sound s 
 performed-sound (Steal hart on) t f = steal-sound hart on t f
 performed-sound (Return on) t f = return-sound on t f
 performed-sound (Start hart address opaque) t f = start-sound hart address opaque t f
+performed-sound (Suspend on) t f = suspend-sound on t f
+performed-sound (Stop on) t f = stop-sound on t f
+performed-sound (Wake on address opaque) t f = wake-sound on address opaque t f
+performed-sound (Off on) t f = off-sound on t f
+performed-sound (Await on kind x y) t f = await-sound on kind x y t f
 performed-sound (Status hart) t f = effect-sound (Status hart) t f (λ _. f)
 performed-sound Home t f = effect-sound Home t f (λ _. f)
 performed-sound (Send sender c) t f = send-sound sender c t f
@@ -132,6 +157,10 @@ Effects Done = Unit
 Effects (Mask mask) = Unit
 Effects (State state) = Unit
 Effects (Flag flag) = Unit
+Effects (Count count) = Unit
+Effects Run = Unit
+Effects PoweredOff = Unit
+Effects (Operation kind x y) = Unit
 
 effect-answers : (r : Request) (t : Tables) → Effects (effect r t .answer)
 unfolding effect
@@ -139,6 +168,11 @@ effect-answers (Setup s) t = tt
 effect-answers (Steal hart on) t = tt
 effect-answers (Return on) t = tt
 effect-answers (Start hart address opaque) t = tt
+effect-answers (Suspend on) t = tt
+effect-answers (Stop on) t = tt
+effect-answers (Wake on address opaque) t = tt
+effect-answers (Off on) t = tt
+effect-answers (Await on kind x y) t = tt
 effect-answers (Status hart) t = tt
 effect-answers Home t = tt
 effect-answers (Send sender c) t =
@@ -154,7 +188,8 @@ effect-answers (Add base size) t = tt
 effect-answers (Remove base size) t = tt
 effect-answers (Defined base size) t = tt
 
-effect-refusal : (r : Request) (t : Tables) (e : Error) → effect r t .answer ≡ Refused e → e ≡ ReachedMaxNumberOfRemoteCommands
+-- an effect refuses by 8 alone
+pub effect-refusal : (r : Request) (t : Tables) (e : Error) → effect r t .answer ≡ Refused e → e ≡ ReachedMaxNumberOfRemoteCommands
 effect-refusal r t e p = rw p at (effect-answers r t)
 
 module _ (r : Request) (t : Tables) (e : Error) (p : performed r t .answer ≡ Refused e) where
@@ -181,9 +216,9 @@ promised-given q t p = ap (λ (o : Outcome). given (o .answer)) p
 
 -- tests that give no 12, then any effect
 none-twelve : (r : Request) (t : Tables) (xs : List Test) → allOf (λ x. notTwelve (x .error)) xs ≡ true
-    → judged xs t (effect r t) .answer ≢ Refused TablesNotSound
+    → judged (refusedOn t) xs (effect r t) .answer ≢ Refused TablesNotSound
 none-twelve r t xs k =
-    by-errors t (effect r t) (λ (o : Outcome). o .answer ≢ Refused TablesNotSound) notTwelve
+    by-errors (refusedOn t) (effect r t) (λ (o : Outcome). o .answer ≢ Refused TablesNotSound) notTwelve
     (λ e other p. false≢true (sym (ap (λ (a : Answer). not (eqb (given a .number) tablesNotSound)) p) ∙ other))
     xs
     k
@@ -221,6 +256,12 @@ pub record Cases (t : Tables) (P : Request → Tables → Type 0) : Type 0 where
       → P (Return on) (exchanged (hardwareHart t (on .0) .id) (on .0) t)
   pub start : (hart : ConfidentialHartId) (address opaque : ℕ) → hart .0 < harts t
       → (y : ConfidentialHart) → P (Start hart address opaque) (withHome (put hartWords (t .home) (hart .0) (toWords y)) t)
+  pub suspend : (on : HardwareHartId) → on .0 < hardwareHarts t → (y : ConfidentialHart) → P (Suspend on) (withHeld (on .0) y t)
+  pub stop : (on : HardwareHartId) → on .0 < hardwareHarts t → (y : ConfidentialHart) → P (Stop on) (withHeld (on .0) y t)
+  pub wake : (on : HardwareHartId) (address opaque : ℕ) → on .0 < hardwareHarts t → (y : ConfidentialHart)
+      → P (Wake on address opaque) (withHeld (on .0) y t)
+  pub off : (on : HardwareHartId) → on .0 < hardwareHarts t → (y : ConfidentialHart) → P (Off on) (withHeld (on .0) y t)
+  pub await : (on : HardwareHartId) (kind x y : ℕ) → on .0 < hardwareHarts t → (z : ConfidentialHart) → P (Await on kind x y) (withHeld (on .0) z t)
   pub send : (sender : ℕ) (c : ConfidentialHartRemoteCommand) → P (Send sender c) (withQueues (broadcast sender c t .queues) t)
   pub allow : (bits mask : ℕ) → P (Allow bits) (withHead (set (t .head) allowedWord mask) t)
   pub add : (base size : ℕ) (rs : List ConfidentialVmMmioRegion) → length rs ≤ maxRegions → P (Add base size) (withRegions rs t)
@@ -240,6 +281,11 @@ module _ (t : Tables) (s : sound t ≡ true) (P : Request → Tables → Type 0)
       let l = leb-false _ _ (p .1 .0) in
       c .back on (held-names t s (on .0) l (p .1 .1 .0) .there) l)
   by-request (Start hart address opaque) = either (Start hart address opaque) (λ p. c .start hart address opaque (leb-false _ _ (p .1 .0)) _)
+  by-request (Suspend on) = either (Suspend on) (λ p. c .suspend on (leb-false _ _ (p .1 .0)) _)
+  by-request (Stop on) = either (Stop on) (λ p. c .stop on (leb-false _ _ (p .1 .0)) _)
+  by-request (Wake on address opaque) = either (Wake on address opaque) (λ p. c .wake on address opaque (leb-false _ _ (p .1 .0)) _)
+  by-request (Off on) = either (Off on) (λ p. c .off on (leb-false _ _ (p .1 .0)) _)
+  by-request (Await on kind x y) = either (Await on kind x y) (λ p. c .await on kind x y (leb-false _ _ (p .1 .1 .0)) _)
   by-request (Status hart) = either (Status hart) (λ _. c .unchanged (Status hart))
   by-request Home = either Home (λ _. c .unchanged Home)
   by-request (Send sender command) = either (Send sender command) (λ _. c .send sender command)
@@ -264,7 +310,8 @@ pub record SameLengths (t t′ : Tables) : Type 0 where
   pub queues-same : length (t′ .queues) ≡ length (t .queues)
   pub regions-same : length (t′ .regions) ≡ length (t .regions)
 
-same-lengths : (t : Tables) → SameLengths t t
+-- they are their own
+pub same-lengths : (t : Tables) → SameLengths t t
 same-lengths t = record { head-same = refl; home-same = refl; hardware-same = refl; queues-same = refl; regions-same = refl }
 
 fresh-lengths : (s : declared.Setup) (t : Tables) → Accepted s t → SameLengths t (fresh s t)
@@ -310,6 +357,17 @@ module _ (t : Tables) (s : sound t ≡ true) where
             (omega (arith, z .few-regions, z .long .regions-long)) (omega (arith, z .long .regions-long));
       }
 
+  -- a hardware row written anew keeps them
+  pub held-lengths : (k : ℕ) → k < hardwareHarts t → (y : ConfidentialHart) → SameLengths t (withHeld k y t)
+  held-lengths k l y =
+      record {
+        head-same = refl;
+        home-same = refl;
+        hardware-same = put-length hartWords (t .hardware) k (hardware-fits t z k l) (toWords y) (to-length y);
+        queues-same = refl;
+        regions-same = refl;
+      }
+
   -- every request keeps those of sound tables
   pub performed-lengths : (r : Request) → SameLengths t (performed r t .after)
   performed-lengths r =
@@ -325,6 +383,11 @@ module _ (t : Tables) (s : sound t ≡ true) where
           queues-same = refl;
           regions-same = refl;
         };
+        suspend = λ on l y. held-lengths (on .0) l y;
+        stop = λ on l y. held-lengths (on .0) l y;
+        wake = λ on address opaque l y. held-lengths (on .0) l y;
+        off = λ on l y. held-lengths (on .0) l y;
+        await = λ on kind x y l held. held-lengths (on .0) l held;
         send = λ sender c. record {
           head-same = refl;
           home-same = refl;

@@ -9,6 +9,7 @@ use lib.ListN.{length}
 use lib.Dec.{eqb, leb, ltb}
 use native.Mathlib.Omega.{arith}
 use borrow.Author.Tests.{eq-eqb, ne-eqb, eqb-true, eqb-false, le-leb, leb-true, lt-ltb, ltb-true, not-true}
+use Rattle.table_rows.specs.Rows.{row}
 use Rattle.table_rows.specs.Choice.{pick, every}
 use Rattle.table_rows.proofs.PickLaws.{yes, no, by-test, and-left, and-right, and-both, not-yes}
 use Rattle.table_rows.proofs.EveryLaws.{every-at, every-of}
@@ -22,6 +23,7 @@ use Rattle.mmio_regions.specs.Table.{regionWords, regionsSound}
 use Rattle.mmio_regions.proofs.SoundLaws as regions
 use Rattle.monitor_requests.specs.Tables.{
   Tables,
+  tables,
   headWords,
   harts,
   hardwareHarts,
@@ -254,6 +256,35 @@ module _ (t : Tables) where
       (every-of (hardwareRowSound t) (hardwareHarts t) (f .hardware-row)))
       (every-of (λ h. queueWellFormed (queue t h)) (harts t) (f .queue-formed)))
       (f .regions-sound)
+
+-- sound tables with other queues, as many words of them, are sound where each queue is
+pub queues-sound : (t : Tables) → sound t ≡ true → (queues : List ℕ) → length queues ≡ length (t .queues)
+    → ((h : ℕ) → h < harts t → queueWellFormed (row queueWords queues h) ≡ true)
+    → sound (tables (t .head) (t .home) (t .hardware) queues (t .regions)) ≡ true
+queues-sound t s queues e formed =
+    let f = sound-facts t s in
+    let z = f .sized in
+    facts-sound (tables (t .head) (t .home) (t .hardware) queues (t .regions))
+    (record {
+      sized = record {
+        some-harts = z .some-harts;
+        few-harts = z .few-harts;
+        some-hardware = z .some-hardware;
+        few-hardware = z .few-hardware;
+        few-regions = z .few-regions;
+        long = record {
+          head-long = z .long .head-long;
+          home-long = z .long .home-long;
+          hardware-long = z .long .hardware-long;
+          queues-long = rw e (z .long .queues-long);
+          regions-long = z .long .regions-long;
+        };
+      };
+      home-row = f .home-row;
+      hardware-row = f .hardware-row;
+      queue-formed = formed;
+      regions-sound = f .regions-sound;
+    })
 
 -- ---- what a caller asks of a row of sound tables
 

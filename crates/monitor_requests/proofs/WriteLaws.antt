@@ -49,6 +49,7 @@ use Rattle.monitor_requests.specs.Requests.{
   Outcome,
   withHead,
   withHome,
+  withHeld,
   withQueues,
   withRegions,
   exchanged,
@@ -111,6 +112,16 @@ module _ (t : Tables) (s : sound t ≡ true) where
   started-only h lh y allowedMask l e = refl
   started-only h lh y counts l e = refl
 
+  -- a hardware row written anew
+  pub held-only : (k : ℕ) → k < hardwareHarts t → (y : ConfidentialHart) → Only (λ p. same p (hardwareRow k)) (withHeld k y t)
+  held-only k lk y (homeRow i) l e = refl
+  held-only k lk y (hardwareRow i) l e =
+      row-put-other hartWords (t .hardware) k (hardware-fits t z k lk) (toWords y) (to-length y) i (eqb-false i k e) (hardware-fits t z i (ltb-true _ _ l))
+  held-only k lk y (queueRow i) l e = refl
+  held-only k lk y regionTable l e = refl
+  held-only k lk y allowedMask l e = refl
+  held-only k lk y counts l e = refl
+
   -- a hart that is not selected, or that sends, does not receive
   receives-none : (sender : ℕ) (c : ConfidentialHartRemoteCommand) (h : ℕ) → eqb h h && selects c h && not (eqb h sender) ≡ false
       → receives (t .home) sender c h ≡ false
@@ -164,6 +175,11 @@ module _ (t : Tables) (s : sound t ≡ true) where
         steal = λ hart on lh lk p l e. exchanged-only (hart .0) (on .0) lh lk p l e;
         back = λ on lh lk p l e. exchanged-only (hardwareHart t (on .0) .id) (on .0) lh lk p l e;
         start = λ hart address opaque lh y p l e. started-only (hart .0) lh y p l e;
+        suspend = λ on lk y p l e. held-only (on .0) lk y p l e;
+        stop = λ on lk y p l e. held-only (on .0) lk y p l e;
+        wake = λ on address opaque lk y p l e. held-only (on .0) lk y p l e;
+        off = λ on lk y p l e. held-only (on .0) lk y p l e;
+        await = λ on kind x y lk held p l e. held-only (on .0) lk held p l e;
         send = sent-only;
         allow = λ bits mask p l e. allowed-only mask p l e;
         add = λ base size rs few p l e. regions-only rs p l e;
@@ -179,7 +195,7 @@ drop-same xs ys k e f =
     (λ i _. getD-drop k ys i 0 ∙ f (k + i) (omega arith) ∙ sym (getD-drop k xs i 0))
 
 -- a row put among the first n
-drop-put : (w : ℕ) (xs : List ℕ) (i n : ℕ) → i < n → i * w + w ≤ length xs → (ys : List ℕ) → length ys ≡ w
+pub drop-put : (w : ℕ) (xs : List ℕ) (i n : ℕ) → i < n → i * w + w ≤ length xs → (ys : List ℕ) → length ys ≡ w
     → drop (n * w) (put w xs i ys) ≡ drop (n * w) xs
 drop-put w xs i n l fits ys long =
     drop-same xs (put w xs i ys) (n * w) (put-length w xs i fits ys long)
@@ -206,6 +222,11 @@ module _ (t : Tables) (s : sound t ≡ true) where
       )
       refl
 
+  -- a hardware row written anew
+  pub held-kept : (k : ℕ) → k < hardwareHarts t → (y : ConfidentialHart) → Kept (withHeld k y t)
+  held-kept k l y =
+      rw (drop-put hartWords (t .hardware) k (hardwareHarts t) l (hardware-fits t sized k l) (toWords y) (to-length y)) refl
+
   regions-kept : (rs : List ConfidentialVmMmioRegion) → length rs ≤ maxRegions → Kept (withRegions rs t)
   regions-kept rs few =
       rw (
@@ -224,6 +245,11 @@ module _ (t : Tables) (s : sound t ≡ true) where
         back = λ on lh lk e. exchanged-kept (hardwareHart t (on .0) .id) (on .0) lh lk;
         start = λ hart address opaque l y e.
             rw (drop-put hartWords (t .home) (hart .0) (harts t) l (home-fits t sized (hart .0) l) (toWords y) (to-length y)) refl;
+        suspend = λ on l y e. held-kept (on .0) l y;
+        stop = λ on l y e. held-kept (on .0) l y;
+        wake = λ on address opaque l y e. held-kept (on .0) l y;
+        off = λ on l y e. held-kept (on .0) l y;
+        await = λ on kind x y l held e. held-kept (on .0) l held;
         send = λ sender c e.
             rw (drop-same (t .queues) (broadcast sender c t .queues) (harts t * queueWords) (broadcast-length sender c t s) (broadcast-past sender c t s))
             refl;

@@ -1,9 +1,9 @@
--- What the monitor is: for each request its tests in order, and then its effect.
+-- What the monitor is: for each request its tests in order, and then its effect. Requests that do commands stand in `flow_requests`.
 use Prim.Native.Nat.{ℕ, zero, suc, _+_, _*_}
 use mathlib.Core.Bool.{Bool, true, false, _&&_, not}
 use mathlib.Core.List.{List, [], _∷_, _++_}
 use lib.Bits.{bitOr}
-use lib.ListN.{length, set, drop, replicate}
+use lib.ListN.{length, set, replicate}
 use lib.Dec.{eqb, leb, ltb}
 use Rattle.error.specs.declared.Error.{Error}
 use Rattle.error.specs.declared.Error.the-variants.{
@@ -11,6 +11,9 @@ use Rattle.error.specs.declared.Error.the-variants.{
   HartAlreadyRunning,
   HartNotExecutable,
   CannotStartNotStoppedHart,
+  CannotSuspedNotStartedHart,
+  CannotStopNotStartedHart,
+  CannotStartNotSuspendedHart,
   ReachedMaxNumberOfRemoteCommands,
   ReachedMaxNumberOfMmioRegions,
   OverlappingMmioRegion,
@@ -20,11 +23,12 @@ use Rattle.error.specs.declared.Error.the-variants.{
   NoSuchHardwareHart,
   HardwareHartBusy,
   HardwareHartIdle,
+  OperationPending,
   SetupOutOfRange,
   UnknownKind,
 }
 use Rattle.bits.specs.Bit.{setBit}
-use Rattle.table_rows.specs.Rows.{row, put, rowsOf}
+use Rattle.table_rows.specs.Rows.{row, put, rowsOf, over}
 use Rattle.table_rows.specs.Choice.{pick, every}
 use Rattle.confidential_vm_mmio_region.specs.declared.ConfidentialVmMmioRegion.{ConfidentialVmMmioRegion}
 use Rattle.confidential_vm_mmio_region.specs.Region.{maxEnd, regionOf}
@@ -34,10 +38,10 @@ use Rattle.confidential_hart_remote_command.specs.declared.ConfidentialHartRemo
 use Rattle.confidential_hart_remote_command.specs.Command.{wellFormed}
 use Rattle.confidential_hart_remote_command.specs.Selection.{selects}
 use Rattle.remote_commands.specs.Queue.{maxCommands, queueWords, count, offered}
-use Rattle.hart_lifecycle_state.specs.Lifecycle.{Entry, becomes, refused, start}
+use Rattle.hart_lifecycle_state.specs.Lifecycle.{Entry, becomes, refused, start, suspend, stop, wake}
 use Rattle.confidential_hart.specs.declared.ConfidentialHart.{ConfidentialHart}
-use Rattle.confidential_hart.specs.Hart.{isDummy, isExecutable, dummy, resetHart, bootHart}
-use Rattle.confidential_hart.specs.Transition.{afterStart}
+use Rattle.confidential_hart.specs.Hart.{noOperation, isDummy, isExecutable, isOperation, withOperation, dummy, resetHart, bootHart}
+use Rattle.confidential_hart.specs.Transition.{afterStart, afterSuspend, afterStop, afterWake, afterOff}
 use Rattle.hart_rows.specs.Rows.{hartWords, hartAt, toWords}
 use Rattle.monitor_requests.specs.declared.Setup as declared
 use Rattle.monitor_requests.specs.declared.Request.{Request}
@@ -46,6 +50,11 @@ use Rattle.monitor_requests.specs.declared.Request.the-variants.{
   Steal,
   Return,
   Start,
+  Suspend,
+  Stop,
+  Wake,
+  Off,
+  Await,
   Status,
   Home,
   Send,
@@ -91,10 +100,14 @@ pub record Test : Type 0 where
 abbrev pub refuse : Error → Bool → Test
 refuse error when = record { error = error; when = when }
 
--- tests in order: the first that holds refuses and changes nothing; if none holds, what follows them
-abbrev pub judged : List Test → Tables → Outcome → Outcome
-judged [] t next = next
-judged (x ∷ xs) t next = pick (x .when) (outcome (Refused (x .error)) t) (judged xs t next)
+-- tests in order: the first that holds refuses by its error; if none holds, what follows them
+abbrev pub judged : {A : Type 0} → (Error → A) → List Test → A → A
+judged refusal [] next = next
+judged refusal (x ∷ xs) next = pick (x .when) (refusal (x .error)) (judged refusal xs next)
+
+-- a refusal changes nothing
+abbrev pub refusedOn : Tables → Error → Outcome
+refusedOn t error = outcome (Refused error) t
 
 -- ---- parts of tests
 
@@ -105,6 +118,10 @@ unsound t = refuse TablesNotSound (not (sound t))
 -- 14: the hardware hart's number is m or above
 abbrev pub noHardwareHart : ℕ → Tables → Test
 noHardwareHart k t = refuse NoSuchHardwareHart (leb (hardwareHarts t) k)
+
+-- 16: the hardware hart holds its dummy
+abbrev pub idle : ℕ → Tables → Test
+idle k t = refuse HardwareHartIdle (isDummy (hardwareHart t k))
 
 -- 1: the hart's number is n or above
 abbrev pub noHart : ℕ → Tables → Test
@@ -149,7 +166,7 @@ tests (Steal hart on) t =
 tests (Return on) t =
     unsound t
     ∷ noHardwareHart (on .0) t
-    ∷ refuse HardwareHartIdle (isDummy (hardwareHart t (on .0)))
+    ∷ idle (on .0) t
     ∷ []
 -- 12, 1, 2, 4
 tests (Start hart address opaque) t =
@@ -157,6 +174,37 @@ tests (Start hart address opaque) t =
     ∷ noHart (hart .0) t
     ∷ away (hart .0) t
     ∷ refuse CannotStartNotStoppedHart (refuses (start (homeHart t (hart .0) .lifecycle)))
+    ∷ []
+-- 12, 14, 16, 5
+tests (Suspend on) t =
+    unsound t
+    ∷ noHardwareHart (on .0) t
+    ∷ idle (on .0) t
+    ∷ refuse CannotSuspedNotStartedHart (refuses (suspend (hardwareHart t (on .0) .lifecycle)))
+    ∷ []
+-- 12, 14, 16, 6
+tests (Stop on) t =
+    unsound t
+    ∷ noHardwareHart (on .0) t
+    ∷ idle (on .0) t
+    ∷ refuse CannotStopNotStartedHart (refuses (stop (hardwareHart t (on .0) .lifecycle)))
+    ∷ []
+-- 12, 14, 16, 7
+tests (Wake on address opaque) t =
+    unsound t
+    ∷ noHardwareHart (on .0) t
+    ∷ idle (on .0) t
+    ∷ refuse CannotStartNotSuspendedHart (refuses (wake (hardwareHart t (on .0) .lifecycle)))
+    ∷ []
+-- 12, 14, 16
+tests (Off on) t = unsound t ∷ noHardwareHart (on .0) t ∷ idle (on .0) t ∷ []
+-- 12, 19, 14, 16, 17
+tests (Await on kind x y) t =
+    unsound t
+    ∷ refuse UnknownKind (not (isOperation kind))
+    ∷ noHardwareHart (on .0) t
+    ∷ idle (on .0) t
+    ∷ refuse OperationPending (not (eqb (hardwareHart t (on .0) .operation) noOperation))
     ∷ []
 -- 12, 1
 tests (Status hart) t = unsound t ∷ noHart (hart .0) t ∷ []
@@ -188,6 +236,14 @@ withHead head t = tables head (t .home) (t .hardware) (t .queues) (t .regions)
 abbrev pub withHome : List ℕ → Tables → Tables
 withHome home t = tables (t .head) home (t .hardware) (t .queues) (t .regions)
 
+-- the tables with other hardware rows
+abbrev pub withHardware : List ℕ → Tables → Tables
+withHardware hardware t = tables (t .head) (t .home) hardware (t .queues) (t .regions)
+
+-- the tables with another record in hardware row k
+abbrev pub withHeld : ℕ → ConfidentialHart → Tables → Tables
+withHeld k hart t = withHardware (put hartWords (t .hardware) k (toWords hart)) t
+
 -- the tables with other queues
 abbrev pub withQueues : List ℕ → Tables → Tables
 withQueues queues t = tables (t .head) (t .home) (t .hardware) queues (t .regions)
@@ -203,10 +259,6 @@ exchanged h k t =
     tables (t .head) (put hartWords (t .home) h (row hartWords (t .hardware) k)) (put hartWords (t .hardware) k (row hartWords (t .home) h))
     (t .queues)
     (t .regions)
-
--- words over the front of others
-abbrev pub over : List ℕ → List ℕ → List ℕ
-over front words = front ++ drop (length front) words
 
 -- hart h at setup: the boot hart or one after a reset
 abbrev pub setupHart : declared.Setup → ℕ → ConfidentialHart
@@ -264,6 +316,11 @@ effect (Steal hart on) t = outcome (Mask (allowed t)) (exchanged (hart .0) (on .
 effect (Return on) t = outcome Done (exchanged (hardwareHart t (on .0) .id) (on .0) t)
 effect (Start hart address opaque) t =
     outcome Done (withHome (put hartWords (t .home) (hart .0) (toWords (afterStart address opaque (homeHart t (hart .0)) .hart))) t)
+effect (Suspend on) t = outcome Done (withHeld (on .0) (afterSuspend (hardwareHart t (on .0)) .hart) t)
+effect (Stop on) t = outcome Done (withHeld (on .0) (afterStop (hardwareHart t (on .0)) .hart) t)
+effect (Wake on address opaque) t = outcome Done (withHeld (on .0) (afterWake address opaque (hardwareHart t (on .0)) .hart) t)
+effect (Off on) t = outcome Done (withHeld (on .0) (afterOff (hardwareHart t (on .0)) .hart) t)
+effect (Await on kind x y) t = outcome Done (withHeld (on .0) (withOperation kind x y (hardwareHart t (on .0))) t)
 effect (Status hart) t = outcome (State (homeHart t (hart .0) .lifecycle)) t
 effect Home t = outcome (Flag (every (λ h. not (isDummy (homeHart t h))) (harts t))) t
 effect (Send sender c) t = outcome (broadcast sender c t .answer) (withQueues (broadcast sender c t .queues) t)
@@ -276,4 +333,4 @@ effect (Defined base size) t = outcome (Flag (anyContains (regionFrom base size)
 
 -- a request on any tables: its answer, and the tables afterwards
 unfoldable pub performed : Request → Tables → Outcome
-performed r t = judged (tests r t) t (effect r t)
+performed r t = judged (refusedOn t) (tests r t) (effect r t)

@@ -17,6 +17,11 @@ use Rattle.monitor_requests.specs.declared.Request.the-variants.{
   Steal,
   Return,
   Start,
+  Suspend,
+  Stop,
+  Wake,
+  Off,
+  Await,
   Status,
   Home,
   Send,
@@ -76,13 +81,18 @@ rowOf counts = 0
 abbrev pub same : Place → Place → Bool
 same p q = eqb (kindOf p) (kindOf q) && eqb (rowOf p) (rowOf q)
 
--- the request may write there: setup all; steal and return one home row and one hardware row; start one home row; a broadcast the queues of
--- the harts that it selects but the sender; add and remove the regions; allow the mask; the rest nothing
+-- the request may write there: setup all; steal and return one home row and one hardware row; start one home row; what is asked of a held
+-- hart, its hardware row; a broadcast the queues of the harts that it selects but the sender; add and remove the regions; allow the mask; the rest nothing
 unfoldable pub writes : Request → Tables → Place → Bool
 writes (Setup s) t p = true
 writes (Steal hart on) t p = same p (homeRow (hart .0)) || same p (hardwareRow (on .0))
 writes (Return on) t p = same p (homeRow (hardwareHart t (on .0) .id)) || same p (hardwareRow (on .0))
 writes (Start hart address opaque) t p = same p (homeRow (hart .0))
+writes (Suspend on) t p = same p (hardwareRow (on .0))
+writes (Stop on) t p = same p (hardwareRow (on .0))
+writes (Wake on address opaque) t p = same p (hardwareRow (on .0))
+writes (Off on) t p = same p (hardwareRow (on .0))
+writes (Await on kind x y) t p = same p (hardwareRow (on .0))
 writes (Status hart) t p = false
 writes Home t p = false
 writes (Send sender c) t p = some (λ h. same p (queueRow h) && selects c h && not (eqb h sender)) (harts t)

@@ -1,8 +1,8 @@
 // SPDX-FileCopyrightText: 2023 IBM Corporation
 // SPDX-FileContributor: Wojciech Ozga <woz@zurich.ibm.com>, IBM Research - Zurich
 // SPDX-License-Identifier: Apache-2.0
-// Changed: ported to Rattle, with the limits of core/control_data/confidential_vm.rs: its methods are requests, and what they give is an
-// answer. What a request does is said once, in `specs/Requests.antt`.
+// Changed: ported to Rattle, with the limits of core/control_data/confidential_vm.rs: its methods, and those of
+// confidential_flow/finite_state_machine.rs that do no command, are requests, and what they give is an answer. What a request does is said once, in `specs/Requests.antt`.
 ghost use mathlib.Core.Path.{_≡_};
 ghost use Rattle.monitor_requests.specs.Answers.{given};
 use confidential_hart::ConfidentialHartId;
@@ -38,13 +38,21 @@ pub struct Setup {
     pub vsstatus: u64,
 }
 
-// A request, by the name of its line in a trace.
+// A request that does no command, by the name of its line in a trace.
 pub enum Request {
     Setup(Setup),
     Steal(ConfidentialHartId, HardwareHartId),
     Return(HardwareHartId),
     // a hart, an address and an opaque number
     Start(ConfidentialHartId, u64, u64),
+    // these four are for the hart that a hardware hart holds
+    Suspend(HardwareHartId),
+    Stop(HardwareHartId),
+    // an address and an opaque number
+    Wake(HardwareHartId, u64, u64),
+    Off(HardwareHartId),
+    // the kind of an operation and its two numbers
+    Await(HardwareHartId, u64, u64, u64),
     Status(ConfidentialHartId),
     // whether every hart is at home
     Home,
@@ -66,6 +74,12 @@ pub enum Answer {
     // a lifecycle
     State(u64),
     Flag(bool),
+    // how many commands were done
+    Count(u64),
+    // what a hart goes on with: it runs, it is powered off, or the operation that it waited for is over, which has a kind and two numbers
+    Run,
+    PoweredOff,
+    Operation(u64, u64, u64),
 }
 
 impl Answer {
@@ -79,6 +93,10 @@ impl Answer {
             Answer::Mask(_) => error::DONE,
             Answer::State(_) => error::DONE,
             Answer::Flag(_) => error::DONE,
+            Answer::Count(_) => error::DONE,
+            Answer::Run => error::DONE,
+            Answer::PoweredOff => error::DONE,
+            Answer::Operation(_, _, _) => error::DONE,
         }
     }
 }

@@ -1,7 +1,7 @@
 -- Rows of w words, one after the other in a flat list. What lies past the last row belongs to no row.
 use Prim.Native.Nat.{ℕ, zero, suc, _+_, _*_}
 use mathlib.Core.List.{List, [], _∷_, _++_}
-use lib.ListN.{take, drop, getD}
+use lib.ListN.{length, take, drop, getD}
 
 -- row i
 unfoldable pub row : ℕ → List ℕ → ℕ → List ℕ
@@ -24,3 +24,7 @@ words (suc n) ys i = getD ys i 0 ∷ words n ys (suc i)
 unfoldable pub rowsOf : (ℕ → List ℕ) → ℕ → List ℕ
 rowsOf f zero = []
 rowsOf f (suc n) = rowsOf f n ++ f n
+
+-- words over the front of others
+abbrev pub over : List ℕ → List ℕ → List ℕ
+over front words = front ++ drop (length front) words

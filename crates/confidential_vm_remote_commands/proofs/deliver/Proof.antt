@@ -34,8 +34,10 @@ visit-requires c κs =
     )
 
 -- the number of `Mask` among the answers is none of the others'
-other : (n : ℕ) → n ≡ 2 → (n ≡ 0) ⊎ ((n ≡ 1) ⊎ ((n ≡ 3) ⊎ (n ≡ 4))) → ⊥
-other n e = ⊎-elim (λ f. omega arith) (⊎-elim (λ f. omega arith) (⊎-elim (λ f. omega arith) (λ f. omega arith)))
+other : (n : ℕ) → n ≡ 2 → (n ≡ 0) ⊎ (n ≡ 1) ⊎ (n ≡ 3) ⊎ (n ≡ 4) ⊎ (n ≡ 5) ⊎ (n ≡ 6) ⊎ (n ≡ 7) ⊎ (n ≡ 8) → ⊥
+other n e =
+    ⊎-elim (λ f. omega arith) (⊎-elim (λ f. omega arith) (⊎-elim (λ f. omega arith) (⊎-elim (λ f. omega arith)
+    (⊎-elim (λ f. omega arith) (⊎-elim (λ f. omega arith) (⊎-elim (λ f. omega arith) (λ f. omega arith)))))))
 
 returns : tie.Need-returns Inv-loop μ-loop
 returns c =

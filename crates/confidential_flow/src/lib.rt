@@ -1,0 +1,81 @@
+// SPDX-FileCopyrightText: 2023 IBM Corporation
+// SPDX-FileContributor: Wojciech Ozga <woz@zurich.ibm.com>, IBM Research - Zurich
+// SPDX-License-Identifier: Apache-2.0
+// Changed: ported to Rattle from `set_resumable_operation` of confidential_flow/finite_state_machine.rs. The flow's hart is the one that a
+// hardware hart holds in the lent tables. The entry takes any numbers and any tables; the function above it is for sound tables.
+ghost use mathlib.Core.Path.{_≡_};
+ghost use mathlib.Core.Bool.{true};
+ghost use Rattle.confidential_hart.specs.Hart.{isOperation};
+ghost use Rattle.monitor_requests.specs.declared.Request.the-variants.{Await};
+ghost use Rattle.monitor_requests.specs.Tables.{tables, sound, Sized};
+ghost use Rattle.monitor_requests.specs.Requests.{outcome, performed};
+use confidential_hart::HardwareHartId;
+use confidential_hart::LAST_OPERATION;
+use confidential_hart::NO_OPERATION;
+use error::Error;
+use monitor_requests::Answer;
+use monitor_requests::HARDWARE_WORD;
+
+// Whether a hart can wait for an operation of this kind.
+fn is_operation(kind: u64) -> bool
+    ensures { λ r. ⌜ r ≡ isOperation kind ⌝ }
+{
+    (kind != NO_OPERATION) & (kind <= LAST_OPERATION)
+}
+
+// The tests of an await in their order, and the record with the operation.
+fn await_operation(
+    on: HardwareHartId,
+    kind: u64,
+    x: u64,
+    y: u64,
+    head: &[u64],
+    home: &[u64],
+    hardware: &mut [u64],
+    queues: &[u64],
+    regions: &[u64],
+) -> Answer
+    requires { ⌜ (Sized (tables (now head) (now home) (now hardware) (now queues) (now regions))) × (sound (tables (now head) (now home) (now hardware) (now queues) (now regions)) ≡ true) ⌝ }
+    ensures { λ r. ⌜ outcome r (tables (now (head .entry)) (now (home .entry)) (now (hardware .exit)) (now (queues .entry)) (now (regions .entry))) ≡ performed (Await on kind x y) (tables (now (head .entry)) (now (home .entry)) (now (hardware .entry)) (now (queues .entry)) (now (regions .entry))) ⌝ }
+{
+    let k = on.0 as usize;
+    let unknown = !is_operation(kind);
+    if unknown {
+        return Answer::Refused(Error::UnknownKind);
+    }
+    if head[HARDWARE_WORD] <= on.0 {
+        return Answer::Refused(Error::NoSuchHardwareHart);
+    }
+    let idle = hart_tables::is_dummy(hardware, k);
+    if idle {
+        return Answer::Refused(Error::HardwareHartIdle);
+    }
+    let pending = hart_tables::operation(hardware, k) != NO_OPERATION;
+    if pending {
+        return Answer::Refused(Error::OperationPending);
+    }
+    let waiting = hart_rows::load(hardware, k).set_resumable_operation(kind, x, y);
+    hart_rows::store(hardware, k, waiting);
+    Answer::Done
+}
+
+// Sets the operation that the confidential hart on a hardware hart waits for, a kind and two numbers.
+pub fn set_resumable_operation(
+    on: HardwareHartId,
+    kind: u64,
+    x: u64,
+    y: u64,
+    head: &[u64],
+    home: &[u64],
+    hardware: &mut [u64],
+    queues: &[u64],
+    regions: &[u64],
+) -> Answer
+    ensures { λ r. ⌜ outcome r (tables (now (head .entry)) (now (home .entry)) (now (hardware .exit)) (now (queues .entry)) (now (regions .entry))) ≡ performed (Await on kind x y) (tables (now (head .entry)) (now (home .entry)) (now (hardware .entry)) (now (queues .entry)) (now (regions .entry))) ⌝ }
+{
+    let unsound = !sound_tables::are_tables_sound(head, home, hardware, queues, regions);
+    if unsound {
+        return Answer::Refused(Error::TablesNotSound);
+    }
+    await_operation(on, kind, x, y, head, home, hardware, queues, regions)
+}

@@ -1,0 +1,2 @@
+-- What belongs to no one function of `confidential_flow_remote_commands`.
+pub mod SentLaws

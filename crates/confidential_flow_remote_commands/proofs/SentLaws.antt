@@ -1,0 +1,28 @@
+-- A broadcast of the tables after its sender did its own commands: they are sound, and its outcome is that of the flow. Assumes nothing.
+use Prim.Native.Nat.{ℕ, _<_}
+use mathlib.Core.Path.{_≡_, refl, sym, ap, _∙_}
+use mathlib.Core.Bool.{true}
+use mathlib.Core.List.{List}
+use Rattle.confidential_hart_remote_command.specs.declared.ConfidentialHartRemoteCommand.{ConfidentialHartRemoteCommand}
+use Rattle.held_hart.proofs.HeldLaws.{Own}
+use Rattle.monitor_requests.specs.declared.Answer.{Answer}
+use Rattle.monitor_requests.specs.declared.Request.the-variants.{Send}
+use Rattle.monitor_requests.specs.Tables.{Tables, hardwareHarts, sound, Sized}
+use Rattle.monitor_requests.specs.Requests.{Outcome, outcome, withHardware, withQueues, performed}
+use Rattle.monitor_requests.proofs.SoundLaws.{sound-sized}
+use Rattle.flow_requests.specs.FlowRequests.{flowOutcome, broadcasts, heldId}
+use Rattle.flow_requests.proofs.DoingLaws.{did-sound}
+
+module _ (t : Tables) (k : ℕ) (c : ConfidentialHartRemoteCommand) (h : ℕ) (room : List ℕ) {did : ℕ} {rows written : List ℕ}
+    (own : Own c h (t .hardware) k room did rows written) where
+  -- the tables that are broadcast over
+  pub sent-sound : sound t ≡ true → k < hardwareHarts t → (Sized (withHardware rows t)) × (sound (withHardware rows t) ≡ true)
+  sent-sound s there =
+      let still : sound (withHardware rows t) ≡ true = rw (own .1) (did-sound t s k there _) in
+      (sound-sized _ still, still)
+
+  -- their outcome, with what was done before
+  pub sent-is : h ≡ heldId t k → {r : Answer} {queues : List ℕ}
+      → outcome r (withQueues queues (withHardware rows t)) ≡ performed (Send h c) (withHardware rows t)
+      → flowOutcome r did (withQueues queues (withHardware rows t)) written ≡ broadcasts c k (heldId t k) t room
+  sent-is named e = ap (λ (o : Outcome). flowOutcome (o .answer) did (o .after) written) e ∙ rw (own .0, own .1, own .2, named) refl

@@ -1,0 +1,36 @@
+-- `confidential_flow_remote_commands::broadcast_remote_command` meets its contract: 12 first, and then what sound tables have. Assumes nothing.
+use mathlib.Core.Path.{refl, sym, ap, _∙_}
+use borrow.Author.Tests.{not-true, not-false}
+use Rattle.monitor_requests.proofs.SoundLaws.{sound-sized}
+use Rattle.flow_requests.specs.declared.FlowRequest.the-variants.{Broadcast}
+use Rattle.flow_requests.proofs.FlowLaws.{flow-unsound-refused}
+use borrow.Author.Needs.{needs}
+use Rattle.confidential_flow_remote_commands.proofs.broadcast_remote_command.Statement.{statement}
+use Rattle.confidential_flow_remote_commands.proofs.broadcast_remote_command.Tie as tie
+
+returns : tie.Need-returns
+returns c =
+    let test = c .before in
+    rw (c .refused .ensures)
+    (sym (flow-unsound-refused (Broadcast _ _) _ _ refl (sym (test .before .are-tables-sound .ensures) ∙ not-true _ (test .if1 .taken))))
+
+broadcast-requires : tie.Need-broadcast-requires
+broadcast-requires c κs =
+    let test = c .before .before .before in
+    let s = sym (test .before .are-tables-sound .ensures) ∙ not-false _ (test .if1 .left) in
+    (sound-sized _ s, s)
+
+pub broadcast-remote-command-spec : {M : Type 1} → statement M
+broadcast-remote-command-spec =
+    tie.close
+    (tie.spec
+    (λ c. search needs)
+    (λ c. search needs)
+    (λ c. search needs)
+    (λ c. search needs)
+    returns
+    broadcast-requires
+    (λ c. search needs)
+    (λ c. search needs)
+    (λ c. search needs)
+    (λ c. search needs))

@@ -1,0 +1,36 @@
+-- `confidential_flow_remote_commands::process_confidential_hart_remote_commands` meets its contract: 12 first, and then what sound tables have. Assumes nothing.
+use mathlib.Core.Path.{refl, sym, ap, _∙_}
+use borrow.Author.Tests.{not-true, not-false}
+use Rattle.monitor_requests.proofs.SoundLaws.{sound-sized}
+use Rattle.flow_requests.specs.declared.FlowRequest.the-variants.{Process}
+use Rattle.flow_requests.proofs.FlowLaws.{flow-unsound-refused}
+use borrow.Author.Needs.{needs}
+use Rattle.confidential_flow_remote_commands.proofs.process_confidential_hart_remote_commands.Statement.{statement}
+use Rattle.confidential_flow_remote_commands.proofs.process_confidential_hart_remote_commands.Tie as tie
+
+returns : tie.Need-returns
+returns c =
+    let test = c .before in
+    rw (c .refused .ensures)
+    (sym (flow-unsound-refused (Process _) _ _ refl (sym (test .before .are-tables-sound .ensures) ∙ not-true _ (test .if1 .taken))))
+
+process-requires : tie.Need-process-requires
+process-requires c κs =
+    let test = c .before .before .before in
+    let s = sym (test .before .are-tables-sound .ensures) ∙ not-false _ (test .if1 .left) in
+    (sound-sized _ s, s)
+
+pub process-confidential-hart-remote-commands-spec : {M : Type 1} → statement M
+process-confidential-hart-remote-commands-spec =
+    tie.close
+    (tie.spec
+    (λ c. search needs)
+    (λ c. search needs)
+    (λ c. search needs)
+    (λ c. search needs)
+    returns
+    process-requires
+    (λ c. search needs)
+    (λ c. search needs)
+    (λ c. search needs)
+    (λ c. search needs))

@@ -1,0 +1,136 @@
+// SPDX-FileCopyrightText: 2023 IBM Corporation
+// SPDX-FileContributor: Wojciech Ozga <woz@zurich.ibm.com>, IBM Research - Zurich
+// SPDX-License-Identifier: Apache-2.0
+// Changed: ported to Rattle from the remote commands of confidential_flow/finite_state_machine.rs. The tables and the room for effects are lent.
+// Each entry takes any numbers and any tables; the function above it is for sound tables.
+ghost use mathlib.Core.Path.{_≡_};
+ghost use mathlib.Core.Bool.{true};
+ghost use Rattle.monitor_requests.specs.Tables.{tables, sound, Sized};
+ghost use Rattle.flow_requests.specs.declared.FlowRequest.the-variants.{Broadcast, Process};
+ghost use Rattle.flow_requests.specs.FlowRequests.{answered, flowPerformed};
+use confidential_hart::HardwareHartId;
+use confidential_hart_remote_command::ConfidentialHartRemoteCommand;
+use effects::EFFECT_WORDS;
+use error::Error;
+use flow_requests::FlowAnswer;
+use monitor_requests::Answer;
+use monitor_requests::HARDWARE_WORD;
+use remote_commands::MAX_NUMBER_OF_COMMANDS;
+
+// The tests of a broadcast in their order. Then the sender does the command if it is selected, and the tables broadcast it.
+fn broadcast(
+    on: HardwareHartId,
+    c: ConfidentialHartRemoteCommand,
+    head: &[u64],
+    home: &[u64],
+    hardware: &mut [u64],
+    queues: &mut [u64],
+    regions: &[u64],
+    effects: &mut [u64],
+) -> FlowAnswer
+    requires { ⌜ (Sized (tables (now head) (now home) (now hardware) (now queues) (now regions))) × (sound (tables (now head) (now home) (now hardware) (now queues) (now regions)) ≡ true) ⌝ }
+    ensures { λ r. ⌜ answered r (tables (now (head .entry)) (now (home .entry)) (now (hardware .exit)) (now (queues .exit)) (now (regions .entry))) (now (effects .exit)) ≡ flowPerformed (Broadcast on c) (tables (now (head .entry)) (now (home .entry)) (now (hardware .entry)) (now (queues .entry)) (now (regions .entry))) (now (effects .entry)) ⌝ }
+{
+    let k = on.0 as usize;
+    if effects.len() < EFFECT_WORDS {
+        return FlowAnswer::refused(Error::RoomTooShort);
+    }
+    let unknown = !c.is_well_formed();
+    if unknown {
+        return FlowAnswer::refused(Error::UnknownKind);
+    }
+    if head[HARDWARE_WORD] <= on.0 {
+        return FlowAnswer::refused(Error::NoSuchHardwareHart);
+    }
+    let idle = hart_tables::is_dummy(hardware, k);
+    if idle {
+        return FlowAnswer::refused(Error::HardwareHartIdle);
+    }
+    let hart = hart_tables::id(hardware, k);
+    let did = held_hart::execute_own(c, hart, hardware, k, effects);
+    let answer = confidential_vm_remote_commands::broadcast(
+        hart,
+        c,
+        head,
+        home,
+        hardware,
+        queues,
+        regions,
+    );
+    FlowAnswer {
+        answer,
+        effects: did,
+    }
+}
+
+// Sends a command from the hart that a hardware hart holds. If the command selects its sender, the sender first does it, which stands even if a
+// full queue then refuses. Gives the hardware harts that hold a hart which received.
+pub fn broadcast_remote_command(
+    on: HardwareHartId,
+    c: ConfidentialHartRemoteCommand,
+    head: &[u64],
+    home: &[u64],
+    hardware: &mut [u64],
+    queues: &mut [u64],
+    regions: &[u64],
+    effects: &mut [u64],
+) -> FlowAnswer
+    ensures { λ r. ⌜ answered r (tables (now (head .entry)) (now (home .entry)) (now (hardware .exit)) (now (queues .exit)) (now (regions .entry))) (now (effects .exit)) ≡ flowPerformed (Broadcast on c) (tables (now (head .entry)) (now (home .entry)) (now (hardware .entry)) (now (queues .entry)) (now (regions .entry))) (now (effects .entry)) ⌝ }
+{
+    let unsound = !sound_tables::are_tables_sound(head, home, hardware, queues, regions);
+    if unsound {
+        return FlowAnswer::refused(Error::TablesNotSound);
+    }
+    broadcast(on, c, head, home, hardware, queues, regions, effects)
+}
+
+// The tests of a process in their order, and the commands of the held hart's queue.
+fn process(
+    on: HardwareHartId,
+    head: &[u64],
+    home: &[u64],
+    hardware: &mut [u64],
+    queues: &mut [u64],
+    regions: &[u64],
+    effects: &mut [u64],
+) -> FlowAnswer
+    requires { ⌜ (Sized (tables (now head) (now home) (now hardware) (now queues) (now regions))) × (sound (tables (now head) (now home) (now hardware) (now queues) (now regions)) ≡ true) ⌝ }
+    ensures { λ r. ⌜ answered r (tables (now (head .entry)) (now (home .entry)) (now (hardware .exit)) (now (queues .exit)) (now (regions .entry))) (now (effects .exit)) ≡ flowPerformed (Process on) (tables (now (head .entry)) (now (home .entry)) (now (hardware .entry)) (now (queues .entry)) (now (regions .entry))) (now (effects .entry)) ⌝ }
+{
+    let k = on.0 as usize;
+    if effects.len() < MAX_NUMBER_OF_COMMANDS * EFFECT_WORDS {
+        return FlowAnswer::refused(Error::RoomTooShort);
+    }
+    if head[HARDWARE_WORD] <= on.0 {
+        return FlowAnswer::refused(Error::NoSuchHardwareHart);
+    }
+    let idle = hart_tables::is_dummy(hardware, k);
+    if idle {
+        return FlowAnswer::refused(Error::HardwareHartIdle);
+    }
+    let hart = hart_tables::id(hardware, k);
+    let n = held_hart::execute_queued(hart, hardware, k, queues, effects);
+    FlowAnswer {
+        answer: Answer::Count(n),
+        effects: n,
+    }
+}
+
+// The hart that a hardware hart holds does every command of its queue in order, and the queue is empty afterwards. Gives how many there were.
+pub fn process_confidential_hart_remote_commands(
+    on: HardwareHartId,
+    head: &[u64],
+    home: &[u64],
+    hardware: &mut [u64],
+    queues: &mut [u64],
+    regions: &[u64],
+    effects: &mut [u64],
+) -> FlowAnswer
+    ensures { λ r. ⌜ answered r (tables (now (head .entry)) (now (home .entry)) (now (hardware .exit)) (now (queues .exit)) (now (regions .entry))) (now (effects .exit)) ≡ flowPerformed (Process on) (tables (now (head .entry)) (now (home .entry)) (now (hardware .entry)) (now (queues .entry)) (now (regions .entry))) (now (effects .entry)) ⌝ }
+{
+    let unsound = !sound_tables::are_tables_sound(head, home, hardware, queues, regions);
+    if unsound {
+        return FlowAnswer::refused(Error::TablesNotSound);
+    }
+    process(on, head, home, hardware, queues, regions, effects)
+}

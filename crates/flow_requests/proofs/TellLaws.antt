@@ -1,0 +1,279 @@
+-- What an answer of a request that does commands tells: no count, mask, effect or operation can be made up. Assumes nothing.
+use Prim.Native.Nat.{ℕ, _+_, _*_, _≤_, _<_}
+use mathlib.Core.Path.{_≡_, refl, sym, ap, _∙_}
+use mathlib.Core.Logic.{_≢_}
+use mathlib.Core.Bool.{Bool, true, false, not, false≢true}
+use mathlib.Core.List.{List}
+use lib.ListN.{length}
+use lib.Dec.{eqb}
+use borrow.Author.Tests.{eqb-true, eqb-false}
+use Rattle.error.specs.declared.Error.{Error}
+use Rattle.error.specs.declared.Error.the-variants.{ReachedMaxNumberOfRemoteCommands}
+use Rattle.error.specs.Error.{numberOf, reachedMaxNumberOfRemoteCommands}
+use Rattle.table_rows.specs.Choice.{pick}
+use Rattle.table_rows.specs.Lists.{allOf}
+use Rattle.table_rows.specs.Rows.{row, over}
+use Rattle.table_rows.proofs.PickLaws.{by-test}
+use Rattle.confidential_hart_remote_command.specs.declared.ConfidentialHartRemoteCommand.{ConfidentialHartRemoteCommand}
+use Rattle.confidential_hart_remote_command.specs.Selection.{selects}
+use Rattle.remote_commands.specs.Queue.{count, commandAt, emptied}
+use Rattle.remote_commands.proofs.OfferLaws.{commands-length}
+use Rattle.effects.specs.Effects.{effectWords, effectOf, effectsOf, shutsDown}
+use Rattle.effects.proofs.EffectLaws.{effect-at}
+use Rattle.hart_lifecycle_state.specs.Lifecycle.{poweredOff}
+use Rattle.confidential_hart.specs.declared.ConfidentialHart.{ConfidentialHart}
+use Rattle.confidential_hart.specs.declared.HardwareHartId.{HardwareHartId}
+use Rattle.confidential_hart.specs.Hart.{noOperation, withOperation}
+use Rattle.confidential_hart.specs.Transition.{moved}
+use Rattle.hart_rows.specs.Rows.{hartWords, hartAt}
+use Rattle.hart_rows.proofs.HartRowLaws.{load-store}
+use Rattle.monitor_requests.specs.declared.Answer.{Answer}
+use Rattle.monitor_requests.specs.declared.Answer.the-variants.{Refused, Done, Mask, State, Flag, Count, Run, PoweredOff, Operation}
+use Rattle.monitor_requests.specs.Tables.{Tables, hardwareHart, queue}
+use Rattle.monitor_requests.specs.Answers.{given}
+use Rattle.monitor_requests.specs.Requests.{judged}
+use Rattle.monitor_requests.proofs.JudgedLaws.{Passed, by-errors, judged-map}
+use Rattle.monitor_requests.proofs.SoundLaws.{sound-sized}
+use Rattle.monitor_requests.proofs.MoveLaws.{hardware-fits, six-registers}
+use Rattle.monitor_requests.proofs.BroadcastLaws.{refuser, Masked, RefusedAt, send-mask, send-eight}
+use Rattle.flow_requests.specs.declared.FlowRequest.the-variants.{Broadcast, Process, Resume}
+use Rattle.flow_requests.specs.FlowRequests.{
+  FlowOutcome,
+  flowRefusedOn,
+  flowTests,
+  doing,
+  ownCommands,
+  processed,
+  Going,
+  goesOn,
+  heldId,
+  heldCommands,
+  flowEffect,
+  flowPerformed,
+}
+use Rattle.flow_requests.proofs.DoingLaws.{Own, own-stands, by-going, did-hart, processed-empty}
+use Rattle.flow_requests.proofs.FlowLaws.{by-flow, by-broadcast, broadcast-held, process-held, resume-tests, processed-sound}
+
+-- ---- the record of a held hart that did commands: PoweredOff where one of them shuts down, and else as it was
+
+abbrev pub afterDoing : List ConfidentialHartRemoteCommand → ConfidentialHart → ConfidentialHart
+afterDoing cs x = moved (pick (shutsDown cs) poweredOff (x .lifecycle)) (x .registers) x
+
+-- ---- process
+
+-- the count is the queue's length before, and as many effects are written: record i is command i of the queue, done by the held hart. The queue is
+-- empty afterwards
+pub record Processed (k : ℕ) (t : Tables) (o : FlowOutcome) (n : ℕ) : Type 0 where
+  pub counted : n ≡ count (queue t (heldId t k))
+  pub did-all : o .did ≡ n
+  pub record-at : (i : ℕ) → i < n → row effectWords (o .effects) i ≡ effectOf (heldId t k) (commandAt (queue t (heldId t k)) i)
+  pub queue-empty : queue (o .after) (heldId t k) ≡ emptied
+  pub hart-after : hardwareHart (o .after) k ≡ afterDoing (heldCommands t k) (hardwareHart t k)
+
+abbrev countIn : Answer → ℕ
+countIn (Refused e) = 0
+countIn Done = 0
+countIn (Mask mask) = 0
+countIn (State state) = 0
+countIn (Flag flag) = 0
+countIn (Count count) = count
+countIn Run = 0
+countIn PoweredOff = 0
+countIn (Operation kind x y) = 0
+
+abbrev isMask : Answer → Bool
+isMask (Refused e) = false
+isMask Done = false
+isMask (Mask mask) = true
+isMask (State state) = false
+isMask (Flag flag) = false
+isMask (Count count) = false
+isMask Run = false
+isMask PoweredOff = false
+isMask (Operation kind x y) = false
+
+-- the error is not 8
+abbrev notEight : Error → Bool
+notEight e = not (eqb (numberOf e) reachedMaxNumberOfRemoteCommands)
+
+abbrev isCount : Answer → Bool
+isCount (Refused e) = false
+isCount Done = false
+isCount (Mask mask) = false
+isCount (State state) = false
+isCount (Flag flag) = false
+isCount (Count count) = true
+isCount Run = false
+isCount PoweredOff = false
+isCount (Operation kind x y) = false
+
+-- a count that process gives
+pub process-count : (on : HardwareHartId) (t : Tables) (effects : List ℕ) (n : ℕ) → flowPerformed (Process on) t effects .answer ≡ Count n
+    → Processed (on .0) t (flowPerformed (Process on) t effects) n
+unfolding flowEffect
+process-count on t effects n =
+    by-flow (Process on) t effects (λ (o : FlowOutcome). o .answer ≡ Count n → Processed (on .0) t o n)
+    (λ _ q. absurd (false≢true (ap isCount q)))
+    (λ p q.
+    let x = process-held on t effects p in
+    let h = heldId t (on .0) in
+    let all : length (heldCommands t (on .0)) ≡ n = ap countIn q in
+    let long = commands-length (queue t h) in
+    record {
+      counted = sym all ∙ long;
+      did-all = all;
+      record-at = λ i l. effect-at h (queue t h) effects i (rw (sym long ∙ all) l);
+      queue-empty = processed-empty t (x .tables-sound) h (x .id-below) (heldCommands t (on .0)) (on .0);
+      hart-after = did-hart t (x .tables-sound) (on .0) (x .k-below) (heldCommands t (on .0)) (x .real);
+    })
+
+-- ---- broadcast
+
+-- what the sender did itself: one effect record exactly when the command selects it, over the front of the effects room, and a shutdown request powers it off
+pub record OwnDone (c : ConfidentialHartRemoteCommand) (k : ℕ) (t : Tables) (effects : List ℕ) (o : FlowOutcome) : Type 0 where
+  pub did-own : o .did ≡ pick (selects c (heldId t k)) 1 0
+  pub effects-own : o .effects ≡ over (effectsOf (heldId t k) (ownCommands c (heldId t k))) effects
+  pub hart-after : hardwareHart (o .after) k ≡ afterDoing (ownCommands c (heldId t k)) (hardwareHart t k)
+
+own-length : (c : ConfidentialHartRemoteCommand) (h : ℕ) → length (ownCommands c h) ≡ pick (selects c h) 1 0
+unfolding ownCommands pick
+own-length c h = by-test (selects c h) (λ e. rw e refl) (λ e. rw e refl)
+
+module _ (on : HardwareHartId) (c : ConfidentialHartRemoteCommand) (t : Tables) (effects : List ℕ) where
+  abbrev h : ℕ
+  h = heldId t (on .0)
+
+  abbrev own : Tables
+  own = doing (ownCommands c h) (on .0) t
+
+  own-done : (o : FlowOutcome) → Own c (on .0) h t effects o → Passed (flowTests (Broadcast on c) t effects) → OwnDone c (on .0) t effects o
+  own-done o w p =
+      let x = broadcast-held on c t effects p in
+      record {
+        did-own = w .did-own ∙ own-length c h;
+        effects-own = w .effects-own;
+        hart-after = ap (λ (rows : List ℕ). hartAt rows (on .0)) (w .rows-own)
+            ∙ did-hart t (x .tables-sound) (on .0) (x .k-below) (ownCommands c h) (x .real);
+      }
+
+  -- a mask that a broadcast gives: bit k is 1 exactly when the home row of some hart that receives holds dummy k
+  pub broadcast-mask : (mask : ℕ) → flowPerformed (Broadcast on c) t effects .answer ≡ Mask mask
+      → Masked h c t mask × OwnDone c (on .0) t effects (flowPerformed (Broadcast on c) t effects)
+  broadcast-mask mask =
+      by-broadcast on c t effects
+      (λ (o : FlowOutcome). o .answer ≡ Mask mask → Masked h c t mask × OwnDone c (on .0) t effects o)
+      (λ _ q. absurd (false≢true (ap isMask q)))
+      (λ o w p q.
+      let m = send-mask h c own mask (sym (w .answer-own) ∙ q) in (
+        record {
+          tables-sound = broadcast-held on c t effects p .tables-sound;
+          command-formed = m .command-formed;
+          room = m .room;
+          bits = m .bits;
+          small = m .small;
+        },
+        own-done o w p,
+      ))
+
+  -- 8: the first receiver that has 64 refuses, and what the sender did itself stands
+  pub broadcast-eight : flowPerformed (Broadcast on c) t effects .answer ≡ Refused ReachedMaxNumberOfRemoteCommands
+      → RefusedAt h c t (flowPerformed (Broadcast on c) t effects .after .queues) (refuser h c t)
+      × OwnDone c (on .0) t effects (flowPerformed (Broadcast on c) t effects)
+  unfolding flowPerformed flowTests flowEffect allOf
+  broadcast-eight =
+      by-errors (flowRefusedOn t effects) (flowEffect (Broadcast on c) t effects)
+      (λ (o : FlowOutcome). o .answer ≡ Refused ReachedMaxNumberOfRemoteCommands → RefusedAt h c t (o .after .queues) (refuser h c t) × OwnDone c (on .0) t effects o)
+      notEight
+      (λ e other q. absurd (false≢true (sym (ap (λ (a : Answer). not (eqb (given a .number) reachedMaxNumberOfRemoteCommands)) q) ∙ other)))
+      (flowTests (Broadcast on c) t effects)
+      refl
+      (λ p q.
+      let w = own-stands c (on .0) h t effects in
+      let r = send-eight h c own (sym (w .answer-own) ∙ q) in (
+        rw (w .after-own)
+            (record {
+              there = r .there;
+              receiving = r .receiving;
+              full = r .full;
+              room = r .room;
+              below = r .below;
+              passed = r .passed;
+              above = r .above;
+            }),
+        own-done (flowEffect (Broadcast on c) t effects) w p,
+      ))
+
+-- ---- resume
+
+-- what a hart goes on with, by its record y once its commands are done, and the record z that it is left with: off leaves the operation; an operation was
+-- there and is taken; run is for a hart that waits for nothing
+abbrev pub GoneOn : Answer → ConfidentialHart → ConfidentialHart → Type 0
+GoneOn (Refused e) y z = Unit
+GoneOn Done y z = ⊥
+GoneOn (Mask mask) y z = ⊥
+GoneOn (State state) y z = ⊥
+GoneOn (Flag flag) y z = ⊥
+GoneOn (Count count) y z = ⊥
+GoneOn Run y z = (y .lifecycle ≢ poweredOff) × (y .operation ≡ noOperation) × (z ≡ y)
+GoneOn PoweredOff y z = (y .lifecycle ≡ poweredOff) × (z ≡ y)
+GoneOn (Operation kind a b) y z =
+    (y .lifecycle ≢ poweredOff) × (y .operation ≢ noOperation) × (kind ≡ y .operation) × (a ≡ y .x) × (b ≡ y .y) × (z ≡ withOperation noOperation 0 0 y)
+
+goes-tells : (hardware : List ℕ) (k : ℕ) → k * hartWords + hartWords ≤ length hardware
+    → GoneOn (goesOn hardware k .answer) (hartAt hardware k) (hartAt (goesOn hardware k .hardware) k)
+goes-tells hardware k fits =
+    by-going hardware k (λ (g : Going). GoneOn (g .answer) (hartAt hardware k) (hartAt (g .hardware) k)) (λ e. (eqb-true _ _ e, refl))
+    (λ e d. (
+      eqb-false _ _ e,
+      eqb-false _ _ d,
+      refl,
+      refl,
+      refl,
+      load-store hardware k fits (withOperation noOperation 0 0 (hartAt hardware k)) (six-registers hardware k),
+    ))
+    (λ e d. (eqb-false _ _ e, eqb-true _ _ d, refl))
+
+-- a resume goes on so, unless it is refused
+pub resume-tells : (on : HardwareHartId) (t : Tables) (effects : List ℕ)
+    → GoneOn (flowPerformed (Resume on) t effects .answer) (afterDoing (heldCommands t (on .0)) (hardwareHart t (on .0)))
+    (hardwareHart (flowPerformed (Resume on) t effects .after) (on .0))
+unfolding flowEffect
+resume-tells on t effects =
+    by-flow (Resume on) t effects
+    (λ (o : FlowOutcome). GoneOn (o .answer) (afterDoing (heldCommands t (on .0)) (hardwareHart t (on .0))) (hardwareHart (o .after) (on .0)))
+    (λ _. tt)
+    (λ p.
+    let x = process-held on t effects (resume-tests on t effects p) in
+    let cs = heldCommands t (on .0) in
+    let t′ = processed cs (on .0) (heldId t (on .0)) t in
+    rw (← (did-hart t (x .tables-sound) (on .0) (x .k-below) cs (x .real)))
+    (goes-tells (t′ .hardware) (on .0) (hardware-fits t′ (sound-sized t′ (processed-sound t (on .0) x cs)) (on .0) (x .k-below))))
+
+module _ (on : HardwareHartId) (t : Tables) (effects : List ℕ) where
+  same-as-process : {A : Type 0} (f : FlowOutcome → A) → f (flowEffect (Resume on) t effects) ≡ f (flowEffect (Process on) t effects)
+      → f (flowPerformed (Resume on) t effects) ≡ judged (λ e. f (flowRefusedOn t effects e)) (flowTests (Process on) t effects) (f (flowEffect (Process on) t effects))
+  unfolding flowPerformed flowTests
+  same-as-process f e =
+      judged-map f (flowRefusedOn t effects) (flowEffect (Resume on) t effects) (flowTests (Resume on) t effects)
+      ∙ ap (judged (λ x. f (flowRefusedOn t effects x)) (flowTests (Process on) t effects)) e
+
+  as-process : {A : Type 0} (f : FlowOutcome → A) → f (flowEffect (Resume on) t effects) ≡ f (flowEffect (Process on) t effects)
+      → f (flowPerformed (Resume on) t effects) ≡ f (flowPerformed (Process on) t effects)
+  unfolding flowPerformed
+  as-process f e =
+      same-as-process f e ∙ sym (judged-map f (flowRefusedOn t effects) (flowEffect (Process on) t effects) (flowTests (Process on) t effects))
+
+  -- it does the commands that a process does
+  pub resume-did : flowPerformed (Resume on) t effects .did ≡ flowPerformed (Process on) t effects .did
+  unfolding flowEffect
+  resume-did = as-process (λ (o : FlowOutcome). o .did) refl
+
+  -- with the same effects
+  pub resume-effects : flowPerformed (Resume on) t effects .effects ≡ flowPerformed (Process on) t effects .effects
+  unfolding flowEffect
+  resume-effects = as-process (λ (o : FlowOutcome). o .effects) refl
+
+  -- and leaves the same queues
+  pub resume-queues : flowPerformed (Resume on) t effects .after .queues ≡ flowPerformed (Process on) t effects .after .queues
+  unfolding flowEffect
+  resume-queues = as-process (λ (o : FlowOutcome). o .after .queues) refl

@@ -1,0 +1,3 @@
+-- The definitions that the promises of the flow cite.
+pub mod FlowRequests
+pub mod FlowWrites
