@@ -3,6 +3,7 @@
 use oracle::driver::Command;
 
 pub mod document_01;
+pub mod flow;
 pub mod original;
 pub mod pair;
 pub mod tables;

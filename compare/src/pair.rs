@@ -138,7 +138,12 @@ pub struct Pair {
 
 impl Pair {
     pub fn new(seed: u64, ours: Tables, setup: Request) -> Self {
-        let mut pair = Self { seed, steps: 0, machine: Machine::with_room(1024, 64), ours, seen: Seen::new() };
+        Self::with_room(seed, Machine::with_room(1024, 64), ours, setup)
+    }
+
+    /// An original that has room for fewer harts.
+    pub fn with_room(seed: u64, machine: Machine, ours: Tables, setup: Request) -> Self {
+        let mut pair = Self { seed, steps: 0, machine, ours, seen: Seen::new() };
         assert_eq!(pair.step(&setup).0, 0, "seed {seed}: {setup:?}");
         pair
     }

@@ -1,18 +1,22 @@
 // SPDX-FileCopyrightText: 2023 IBM Corporation
 // SPDX-FileContributor: Wojciech Ozga <woz@zurich.ibm.com>, IBM Research - Zurich
 // SPDX-License-Identifier: Apache-2.0
-// Changed: ported to Rattle from `set_resumable_operation` of confidential_flow/finite_state_machine.rs. The flow's hart is the one that a
-// hardware hart holds in the lent tables. The entry takes any numbers and any tables; the function above it is for sound tables.
+// Changed: ported to Rattle from `set_resumable_operation` and `resume_confidential_hart_execution` of confidential_flow/finite_state_machine.rs.
+// The flow's hart is the one that a hardware hart holds in the lent tables. Each entry takes any numbers and any tables; the function above it
+// is for sound tables.
 ghost use mathlib.Core.Path.{_≡_};
 ghost use mathlib.Core.Bool.{true};
 ghost use Rattle.confidential_hart.specs.Hart.{isOperation};
 ghost use Rattle.monitor_requests.specs.declared.Request.the-variants.{Await};
 ghost use Rattle.monitor_requests.specs.Tables.{tables, sound, Sized};
 ghost use Rattle.monitor_requests.specs.Requests.{outcome, performed};
+ghost use Rattle.flow_requests.specs.declared.FlowRequest.the-variants.{Resume};
+ghost use Rattle.flow_requests.specs.FlowRequests.{answered, flowPerformed};
 use confidential_hart::HardwareHartId;
 use confidential_hart::LAST_OPERATION;
 use confidential_hart::NO_OPERATION;
 use error::Error;
+use flow_requests::FlowAnswer;
 use monitor_requests::Answer;
 use monitor_requests::HARDWARE_WORD;
 
@@ -78,4 +82,59 @@ pub fn set_resumable_operation(
         return Answer::Refused(Error::TablesNotSound);
     }
     await_operation(on, kind, x, y, head, home, hardware, queues, regions)
+}
+
+// A process over sound tables, and if it is done, what the held hart goes on with.
+fn resume(
+    on: HardwareHartId,
+    head: &[u64],
+    home: &[u64],
+    hardware: &mut [u64],
+    queues: &mut [u64],
+    regions: &[u64],
+    effects: &mut [u64],
+) -> FlowAnswer
+    requires { ⌜ (Sized (tables (now head) (now home) (now hardware) (now queues) (now regions))) × (sound (tables (now head) (now home) (now hardware) (now queues) (now regions)) ≡ true) ⌝ }
+    ensures { λ r. ⌜ answered r (tables (now (head .entry)) (now (home .entry)) (now (hardware .exit)) (now (queues .exit)) (now (regions .entry))) (now (effects .exit)) ≡ flowPerformed (Resume on) (tables (now (head .entry)) (now (home .entry)) (now (hardware .entry)) (now (queues .entry)) (now (regions .entry))) (now (effects .entry)) ⌝ }
+{
+    let done = confidential_flow_remote_commands::process(
+        on,
+        head,
+        home,
+        hardware,
+        queues,
+        regions,
+        effects,
+    );
+    let counted = done.answer;
+    match counted {
+        Answer::Count(_) => {
+            let answer = held_hart::go_on(hardware, on.0 as usize);
+            FlowAnswer {
+                answer,
+                did: done.did,
+            }
+        }
+        _ => done,
+    }
+}
+
+// The hart that a hardware hart holds does every command of its queue, and goes on: it is powered off, or the operation that it waited for is
+// taken, or it runs.
+pub fn resume_confidential_hart_execution(
+    on: HardwareHartId,
+    head: &[u64],
+    home: &[u64],
+    hardware: &mut [u64],
+    queues: &mut [u64],
+    regions: &[u64],
+    effects: &mut [u64],
+) -> FlowAnswer
+    ensures { λ r. ⌜ answered r (tables (now (head .entry)) (now (home .entry)) (now (hardware .exit)) (now (queues .exit)) (now (regions .entry))) (now (effects .exit)) ≡ flowPerformed (Resume on) (tables (now (head .entry)) (now (home .entry)) (now (hardware .entry)) (now (queues .entry)) (now (regions .entry))) (now (effects .entry)) ⌝ }
+{
+    let unsound = !sound_tables::are_tables_sound(head, home, hardware, queues, regions);
+    if unsound {
+        return FlowAnswer::refused(Error::TablesNotSound);
+    }
+    resume(on, head, home, hardware, queues, regions, effects)
 }

@@ -1,2 +1,2 @@
 -- What belongs to no one function of `confidential_flow_lifecycle`.
-pub mod HeldLaws
+pub mod StepLaws

@@ -59,7 +59,7 @@ pub fn suspend_confidential_hart(
     suspend(on, head, home, hardware, queues, regions)
 }
 
-// The same of a stop.
+// The tests of a stop in their order, and the changed record.
 fn stop(
     on: HardwareHartId,
     head: &[u64],
@@ -87,7 +87,7 @@ fn stop(
     Answer::Done
 }
 
-// Stops it.
+// Stops the confidential hart that a hardware hart holds.
 pub fn stop_confidential_hart(
     on: HardwareHartId,
     head: &[u64],
@@ -105,7 +105,7 @@ pub fn stop_confidential_hart(
     stop(on, head, home, hardware, queues, regions)
 }
 
-// The same of a wake.
+// The tests of a wake in their order, and the changed record.
 fn wake(
     on: HardwareHartId,
     address: u64,
@@ -135,7 +135,7 @@ fn wake(
     Answer::Done
 }
 
-// Wakes it at an address.
+// Wakes the confidential hart that a hardware hart holds, at an address.
 pub fn resume_confidential_hart(
     on: HardwareHartId,
     address: u64,
@@ -180,7 +180,7 @@ fn off(
     Answer::Done
 }
 
-// Powers it off, whatever its state.
+// Powers off the confidential hart that a hardware hart holds, whatever its state.
 pub fn shutdown_confidential_hart(
     on: HardwareHartId,
     head: &[u64],

@@ -1,10 +1,10 @@
 -- A broadcast of the tables after its sender did its own commands: they are sound, and its outcome is that of the flow. Assumes nothing.
 use Prim.Native.Nat.{ℕ, _<_}
-use mathlib.Core.Path.{_≡_, refl, sym, ap, _∙_}
+use mathlib.Core.Path.{_≡_, refl, ap, _∙_}
 use mathlib.Core.Bool.{true}
 use mathlib.Core.List.{List}
 use Rattle.confidential_hart_remote_command.specs.declared.ConfidentialHartRemoteCommand.{ConfidentialHartRemoteCommand}
-use Rattle.held_hart.proofs.HeldLaws.{Own}
+use Rattle.held_hart.proofs.HeldLaws.{DidOwn}
 use Rattle.monitor_requests.specs.declared.Answer.{Answer}
 use Rattle.monitor_requests.specs.declared.Request.the-variants.{Send}
 use Rattle.monitor_requests.specs.Tables.{Tables, hardwareHarts, sound, Sized}
@@ -14,7 +14,7 @@ use Rattle.flow_requests.specs.FlowRequests.{flowOutcome, broadcasts, heldId}
 use Rattle.flow_requests.proofs.DoingLaws.{did-sound}
 
 module _ (t : Tables) (k : ℕ) (c : ConfidentialHartRemoteCommand) (h : ℕ) (room : List ℕ) {did : ℕ} {rows written : List ℕ}
-    (own : Own c h (t .hardware) k room did rows written) where
+    (own : DidOwn c h (t .hardware) k room did rows written) where
   -- the tables that are broadcast over
   pub sent-sound : sound t ≡ true → k < hardwareHarts t → (Sized (withHardware rows t)) × (sound (withHardware rows t) ≡ true)
   sent-sound s there =

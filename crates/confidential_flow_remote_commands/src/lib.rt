@@ -57,10 +57,7 @@ fn broadcast(
         queues,
         regions,
     );
-    FlowAnswer {
-        answer,
-        effects: did,
-    }
+    FlowAnswer { answer, did }
 }
 
 // Sends a command from the hart that a hardware hart holds. If the command selects its sender, the sender first does it, which stands even if a
@@ -84,8 +81,8 @@ pub fn broadcast_remote_command(
     broadcast(on, c, head, home, hardware, queues, regions, effects)
 }
 
-// The tests of a process in their order, and the commands of the held hart's queue.
-fn process(
+// The tests of a process in their order, and the commands of the held hart's queue. It is public for a caller that has judged the tables.
+pub fn process(
     on: HardwareHartId,
     head: &[u64],
     home: &[u64],
@@ -112,7 +109,7 @@ fn process(
     let n = held_hart::execute_queued(hart, hardware, k, queues, effects);
     FlowAnswer {
         answer: Answer::Count(n),
-        effects: n,
+        did: n,
     }
 }
 

@@ -42,7 +42,7 @@ unfolding effect
 send-hardware sender c t = by-performed (Send sender c) t (λ (o : Outcome). o .after .hardware ≡ t .hardware) (λ _. refl) (λ _. refl)
 
 -- sender h on hardware hart k did its own command, if it is selected, and then the broadcast of the tables took place
-pub record Own (c : ConfidentialHartRemoteCommand) (k h : ℕ) (t : Tables) (effects : List ℕ) (o : FlowOutcome) : Type 0 where
+pub record OwnStands (c : ConfidentialHartRemoteCommand) (k h : ℕ) (t : Tables) (effects : List ℕ) (o : FlowOutcome) : Type 0 where
   pub did-own : o .did ≡ length (ownCommands c h)
   pub effects-own : o .effects ≡ over (effectsOf h (ownCommands c h)) effects
   pub rows-own : o .after .hardware ≡ didRows (ownCommands c h) (t .hardware) k
@@ -50,7 +50,7 @@ pub record Own (c : ConfidentialHartRemoteCommand) (k h : ℕ) (t : Tables) (eff
   pub answer-own : o .answer ≡ performed (Send h c) (doing (ownCommands c h) k t) .answer
 
 -- what the sender did stands, whatever the broadcast of the tables answers
-pub own-stands : (c : ConfidentialHartRemoteCommand) (k h : ℕ) (t : Tables) (effects : List ℕ) → Own c k h t effects (broadcasts c k h t effects)
+pub own-stands : (c : ConfidentialHartRemoteCommand) (k h : ℕ) (t : Tables) (effects : List ℕ) → OwnStands c k h t effects (broadcasts c k h t effects)
 own-stands c k h t effects =
     record {
       did-own = refl;

@@ -1,5 +1,5 @@
--- Laws over all requests, with those that do commands: sound tables stay sound, a refusal changes nothing but by 8, tables and effects keep their
--- lengths, and when 12 is given. Assumes nothing.
+-- Laws over all requests, with those that do commands: sound tables stay sound, a refusal changes nothing but by 8, and when 12 is given. Assumes
+-- nothing.
 use Prim.Native.Nat.{ℕ, _*_, _≤_, _<_}
 use mathlib.Core.Path.{_≡_, refl, sym, ap, _∙_}
 use mathlib.Core.Logic.{_≢_, _↔_}
@@ -20,13 +20,15 @@ use Rattle.remote_commands.specs.Queue.{maxCommands, count}
 use Rattle.effects.specs.Effects.{effectWords}
 use Rattle.confidential_hart.specs.declared.HardwareHartId.{HardwareHartId}
 use Rattle.confidential_hart.specs.Hart.{isDummy}
+use Rattle.monitor_requests.specs.declared.Setup as declared
 use Rattle.monitor_requests.specs.declared.Request.{Request}
+use Rattle.monitor_requests.specs.declared.Request.the-variants.{Setup}
 use Rattle.monitor_requests.specs.declared.Answer.{Answer}
 use Rattle.monitor_requests.specs.declared.Answer.the-variants.{Refused, Done, Mask, State, Flag, Count, Run, PoweredOff, Operation}
 use Rattle.monitor_requests.specs.Answers.{given}
 use Rattle.monitor_requests.specs.Tables.{Tables, harts, hardwareHarts, hardwareHart, sound}
 use Rattle.monitor_requests.specs.Requests.{Outcome, judged, refusedOn, tests, effect, performed}
-use Rattle.monitor_requests.proofs.JudgedLaws.{Passed, by-errors, by-tests, judged-map, judged-passed, notTwelve, isSetup, later, unsound-refused}
+use Rattle.monitor_requests.proofs.JudgedLaws.{Passed, by-errors, by-tests, judged-map, judged-passed, notTwelve, isSetup, by-setup, later, unsound-refused}
 use Rattle.monitor_requests.proofs.SoundLaws.{held-names}
 use Rattle.monitor_requests.proofs.BroadcastLaws.{send-known, send-sound, refused-number}
 use Rattle.monitor_requests.proofs.RequestLaws.{performed-sound, effect-refusal, twelve-exactly}
@@ -37,6 +39,7 @@ use Rattle.flow_requests.specs.FlowRequests.{
   FlowOutcome,
   flowOutcome,
   answered,
+  answerIn,
   flowGiven,
   flowRefusedOn,
   flowTests,
@@ -51,7 +54,7 @@ use Rattle.flow_requests.specs.FlowRequests.{
   flowEffect,
   flowPerformed,
 }
-use Rattle.flow_requests.proofs.DoingLaws.{Own, own-stands, by-going, did-sound, did-hart, emptied-sound, goes-sound}
+use Rattle.flow_requests.proofs.DoingLaws.{OwnStands, own-stands, by-going, did-sound, did-hart, emptied-sound, goes-sound}
 
 -- ---- the tests, and then the effect
 
@@ -86,6 +89,14 @@ isFlowSetup (Broadcast on c) = false
 isFlowSetup (Process on) = false
 isFlowSetup (Resume on) = false
 
+-- a request is a setup, or it is none
+pub by-flow-setup : (P : FlowRequest → Type 0) → ((s : declared.Setup) → P (Plain (Setup s))) → ((r : FlowRequest) → isFlowSetup r ≡ false → P r)
+    → (r : FlowRequest) → P r
+by-flow-setup P setup other (Plain r) = by-setup (λ x. P (Plain x)) setup (λ x e. other (Plain x) e) r
+by-flow-setup P setup other (Broadcast on c) = other (Broadcast on c) refl
+by-flow-setup P setup other (Process on) = other (Process on) refl
+by-flow-setup P setup other (Resume on) = other (Resume on) refl
+
 -- on tables that are not sound 12 is given, and nothing changes
 pub flow-unsound-refused : (r : FlowRequest) (t : Tables) (effects : List ℕ) → isFlowSetup r ≡ false → sound t ≡ false
     → flowPerformed r t effects ≡ flowRefusedOn t effects TablesNotSound
@@ -111,27 +122,30 @@ module _ (t : Tables) (k : ℕ) where
       let b = leb-false _ _ l in
       record { tables-sound = f; k-below = b; real = real; id-below = held-names t f k b real .there }
 
--- a broadcast that passes its tests: a held hart sends a well-formed command, and there is room for its effect
+-- a broadcast that passes its tests: a held hart sends
 pub broadcast-held : (on : HardwareHartId) (c : ConfidentialHartRemoteCommand) (t : Tables) (effects : List ℕ)
     → Passed (flowTests (Broadcast on c) t effects) → Held t (on .0)
 unfolding flowTests
 broadcast-held on c t effects p = held t (on .0) (p .0) (p .1 .1 .1 .0) (p .1 .1 .1 .1 .0)
 
+-- the command is well formed
 pub broadcast-formed : (on : HardwareHartId) (c : ConfidentialHartRemoteCommand) (t : Tables) (effects : List ℕ)
     → Passed (flowTests (Broadcast on c) t effects) → wellFormed c ≡ true
 unfolding flowTests
 broadcast-formed on c t effects p = not-false _ (p .1 .1 .0)
 
+-- one effect record has room
 pub broadcast-room : (on : HardwareHartId) (c : ConfidentialHartRemoteCommand) (t : Tables) (effects : List ℕ)
     → Passed (flowTests (Broadcast on c) t effects) → 1 * effectWords ≤ length effects
 unfolding flowTests
 broadcast-room on c t effects p = ltb-false _ _ (p .1 .0)
 
--- a process or a resume: a held hart, and room for 64 effects
+-- a process: a held hart
 pub process-held : (on : HardwareHartId) (t : Tables) (effects : List ℕ) → Passed (flowTests (Process on) t effects) → Held t (on .0)
 unfolding flowTests
 process-held on t effects p = held t (on .0) (p .0) (p .1 .1 .0) (p .1 .1 .1 .0)
 
+-- 64 effect records have room
 pub process-room : (on : HardwareHartId) (t : Tables) (effects : List ℕ) → Passed (flowTests (Process on) t effects) → maxCommands * effectWords ≤ length effects
 unfolding flowTests
 process-room on t effects p = ltb-false _ _ (p .1 .0)
@@ -144,7 +158,7 @@ resume-tests on t effects p = p
 module _ (on : HardwareHartId) (c : ConfidentialHartRemoteCommand) (t : Tables) (effects : List ℕ) where
   -- what holds of each refusal, and of the sender's own doing with the broadcast of the tables after it, holds of a broadcast
   pub by-broadcast : (P : FlowOutcome → Type 0) → ((e : Error) → P (flowRefusedOn t effects e))
-      → ((o : FlowOutcome) → Own c (on .0) (heldId t (on .0)) t effects o → Passed (flowTests (Broadcast on c) t effects) → P o)
+      → ((o : FlowOutcome) → OwnStands c (on .0) (heldId t (on .0)) t effects o → Passed (flowTests (Broadcast on c) t effects) → P o)
       → P (flowPerformed (Broadcast on c) t effects)
   unfolding flowEffect
   by-broadcast P refusal own =
@@ -195,7 +209,8 @@ errorIn Run = BadLine
 errorIn PoweredOff = BadLine
 errorIn (Operation kind x y) = BadLine
 
-abbrev isRefused : Answer → Bool
+-- the answer is a refusal
+abbrev pub isRefused : Answer → Bool
 isRefused (Refused e) = true
 isRefused Done = false
 isRefused (Mask mask) = false
@@ -249,8 +264,8 @@ flow-one-outcome r t effects o o′ p q = p ∙ sym q
 -- what a promise says of the answer: its number and values are those of the request
 pub flow-promised-given : (q : FlowRequest) (t : Tables) (effects : List ℕ) {t′ : Tables} {effects′ : List ℕ} {r : FlowAnswer}
     → answered r t′ effects′ ≡ flowPerformed q t effects
-    → flowGiven r ≡ flowGiven (record { answer = flowPerformed q t effects .answer; effects = flowPerformed q t effects .did })
-flow-promised-given q t effects p = ap (λ (o : FlowOutcome). flowGiven (record { answer = o .answer; effects = o .did })) p
+    → flowGiven r ≡ flowGiven (answerIn (flowPerformed q t effects))
+flow-promised-given q t effects p = ap (λ (o : FlowOutcome). flowGiven (answerIn o)) p
 
 -- ---- 12 exactly
 

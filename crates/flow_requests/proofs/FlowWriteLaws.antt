@@ -9,7 +9,7 @@ use lib.ListN.{length, drop, getD}
 use lib.Dec.{ltb}
 use borrow.Author.Tests.{ltb-true}
 use Rattle.table_rows.specs.Rows.{over}
-use Rattle.table_rows.proofs.PickLaws.{by-pick}
+use Rattle.table_rows.proofs.PickLaws.{by-pick, by-test}
 use Rattle.confidential_hart_remote_command.specs.declared.ConfidentialHartRemoteCommand.{ConfidentialHartRemoteCommand}
 use Rattle.confidential_hart_remote_command.specs.Selection.{selects}
 use Rattle.remote_commands.specs.Queue.{maxCommands, queueWords, emptied}
@@ -18,12 +18,12 @@ use Rattle.effects.specs.Effects.{effectWords, effectsOf}
 use Rattle.effects.proofs.EffectLaws.{over-as-long, over-kept}
 use Rattle.confidential_hart.specs.Hart.{noOperation, withOperation}
 use Rattle.confidential_hart.specs.Transition.{afterOff}
-use Rattle.monitor_requests.specs.declared.Request.the-variants.{Send}
+use Rattle.monitor_requests.specs.declared.Request.the-variants.{Setup, Send}
 use Rattle.monitor_requests.specs.Tables.{Tables, hartsWord, hardwareWord, harts, hardwareHarts, hardwareHart, queue, sound}
 use Rattle.monitor_requests.specs.Requests.{withHardware}
 use Rattle.monitor_requests.specs.Writes.{Place, homeRow, hardwareRow, queueRow, regionTable, allowedMask, counts, wordsAt, within, same, writes, past}
 use Rattle.monitor_requests.proofs.SoundLaws.{sound-facts}
-use Rattle.monitor_requests.proofs.RequestLaws.{SameLengths, same-lengths, performed-lengths}
+use Rattle.monitor_requests.proofs.RequestLaws.{SameLengths, same-lengths, setup-lengths, performed-lengths}
 use Rattle.monitor_requests.proofs.WriteLaws.{held-only, held-kept, drop-put, writes-only, past-kept}
 use Rattle.flow_requests.specs.declared.FlowRequest.{FlowRequest}
 use Rattle.flow_requests.specs.declared.FlowRequest.the-variants.{Plain, Broadcast, Process, Resume}
@@ -46,6 +46,8 @@ use Rattle.flow_requests.proofs.FlowLaws.{
   by-flow,
   plain-is,
   isFlowSetup,
+  by-flow-setup,
+  flow-unsound-refused,
   Held,
   broadcast-held,
   broadcast-room,
@@ -175,11 +177,10 @@ joined a b =
     }
 
 module _ (t : Tables) (s : sound t ≡ true) (effects : List ℕ) where
-  -- every request keeps those of sound tables
-  pub flow-lengths : (r : FlowRequest) → SameLengths t (flowPerformed r t effects .after)
+  sound-lengths : (r : FlowRequest) → SameLengths t (flowPerformed r t effects .after)
   unfolding flowEffect
-  flow-lengths (Plain r) = rw (plain-is r t effects) (performed-lengths t s r)
-  flow-lengths (Broadcast on c) =
+  sound-lengths (Plain r) = rw (plain-is r t effects) (performed-lengths t s r)
+  sound-lengths (Broadcast on c) =
       by-broadcast on c t effects (λ (o : FlowOutcome). SameLengths t (o .after)) (λ _. same-lengths t)
       (λ o w p.
       let x = broadcast-held on c t effects p in
@@ -187,10 +188,10 @@ module _ (t : Tables) (s : sound t ≡ true) (effects : List ℕ) where
       rw (w .after-own)
       (joined (done-lengths t (on .0) x (ownCommands c h))
       (performed-lengths (doing (ownCommands c h) (on .0) t) (done-sound t (on .0) x (ownCommands c h)) (Send h c))))
-  flow-lengths (Process on) =
+  sound-lengths (Process on) =
       by-flow (Process on) t effects (λ (o : FlowOutcome). SameLengths t (o .after)) (λ _. same-lengths t)
       (λ p. emptied-lengths t (on .0) (process-held on t effects p) (heldCommands t (on .0)))
-  flow-lengths (Resume on) =
+  sound-lengths (Resume on) =
       by-flow (Resume on) t effects (λ (o : FlowOutcome). SameLengths t (o .after)) (λ _. same-lengths t)
       (λ p. gone-lengths t (on .0) (process-held on t effects (resume-tests on t effects p)) (heldCommands t (on .0)))
 
@@ -201,12 +202,11 @@ neither true b e = absurd (false≢true (sym e))
 neither false b e = (refl, e)
 
 module _ (t : Tables) (s : sound t ≡ true) (effects : List ℕ) where
-  -- the words of a place that the request does not write are as they were
-  pub flow-writes-only : (r : FlowRequest) (p : Place) → within p t ≡ true → flowWrites r t p ≡ false
+  sound-writes-only : (r : FlowRequest) (p : Place) → within p t ≡ true → flowWrites r t p ≡ false
       → wordsAt p (flowPerformed r t effects .after) ≡ wordsAt p t
   unfolding flowEffect flowWrites writes
-  flow-writes-only (Plain r) p w e = rw (plain-is r t effects) (writes-only t s r p w e)
-  flow-writes-only (Broadcast on c) p w e =
+  sound-writes-only (Plain r) p w e = rw (plain-is r t effects) (writes-only t s r p w e)
+  sound-writes-only (Broadcast on c) p w e =
       by-broadcast on c t effects (λ (o : FlowOutcome). wordsAt p (o .after) ≡ wordsAt p t) (λ _. refl)
       (λ o own q.
       let x = broadcast-held on c t effects q in
@@ -217,13 +217,13 @@ module _ (t : Tables) (s : sound t ≡ true) (effects : List ℕ) where
       (within-head p t (doing (ownCommands c h) (on .0) t) refl w)
       (n .1)
       ∙ done-only t (on .0) x (ownCommands c h) p w (n .0)))
-  flow-writes-only (Process on) p w e =
+  sound-writes-only (Process on) p w e =
       by-flow (Process on) t effects (λ (o : FlowOutcome). wordsAt p (o .after) ≡ wordsAt p t) (λ _. refl)
       (λ q.
       let x = process-held on t effects q in
       let n = neither (same p (hardwareRow (on .0))) _ e in
       emptied-only t (on .0) x (heldCommands t (on .0)) p w (n .1) ∙ done-only t (on .0) x (heldCommands t (on .0)) p w (n .0))
-  flow-writes-only (Resume on) p w e =
+  sound-writes-only (Resume on) p w e =
       by-flow (Resume on) t effects (λ (o : FlowOutcome). wordsAt p (o .after) ≡ wordsAt p t) (λ _. refl)
       (λ q.
       let x = process-held on t effects (resume-tests on t effects q) in
@@ -232,12 +232,11 @@ module _ (t : Tables) (s : sound t ≡ true) (effects : List ℕ) where
       ∙ emptied-only t (on .0) x (heldCommands t (on .0)) p w (n .1)
       ∙ done-only t (on .0) x (heldCommands t (on .0)) p w (n .0))
 
-  -- words past the tables are as they were, for every request but a setup
-  pub flow-past-kept : (r : FlowRequest) → isFlowSetup r ≡ false
+  sound-past-kept : (r : FlowRequest) → isFlowSetup r ≡ false
       → past (harts t) (hardwareHarts t) (flowPerformed r t effects .after) ≡ past (harts t) (hardwareHarts t) t
   unfolding flowEffect
-  flow-past-kept (Plain r) e = rw (plain-is r t effects) (past-kept t s r e)
-  flow-past-kept (Broadcast on c) e =
+  sound-past-kept (Plain r) e = rw (plain-is r t effects) (past-kept t s r e)
+  sound-past-kept (Broadcast on c) e =
       by-broadcast on c t effects (λ (o : FlowOutcome). past (harts t) (hardwareHarts t) (o .after) ≡ past (harts t) (hardwareHarts t) t) (λ _. refl)
       (λ o own q.
       let x = broadcast-held on c t effects q in
@@ -245,13 +244,13 @@ module _ (t : Tables) (s : sound t ≡ true) (effects : List ℕ) where
       rw (own .after-own)
       (past-kept (doing (ownCommands c h) (on .0) t) (done-sound t (on .0) x (ownCommands c h)) (Send h c) refl
       ∙ done-kept t (on .0) x (ownCommands c h)))
-  flow-past-kept (Process on) e =
+  sound-past-kept (Process on) e =
       by-flow (Process on) t effects (λ (o : FlowOutcome). past (harts t) (hardwareHarts t) (o .after) ≡ past (harts t) (hardwareHarts t) t)
       (λ _. refl)
       (λ q.
       let x = process-held on t effects q in
       emptied-kept t (on .0) x (heldCommands t (on .0)) ∙ done-kept t (on .0) x (heldCommands t (on .0)))
-  flow-past-kept (Resume on) e =
+  sound-past-kept (Resume on) e =
       by-flow (Resume on) t effects (λ (o : FlowOutcome). past (harts t) (hardwareHarts t) (o .after) ≡ past (harts t) (hardwareHarts t) t)
       (λ _. refl)
       (λ q.
@@ -259,6 +258,37 @@ module _ (t : Tables) (s : sound t ≡ true) (effects : List ℕ) where
       gone-kept t (on .0) x (heldCommands t (on .0))
       ∙ emptied-kept t (on .0) x (heldCommands t (on .0))
       ∙ done-kept t (on .0) x (heldCommands t (on .0)))
+
+-- ---- the same of any tables: where they are not sound, 12 changes nothing
+
+module _ (t : Tables) (effects : List ℕ) where
+  by-soundness : (r : FlowRequest) (P : Tables → Type 0) → isFlowSetup r ≡ false → (sound t ≡ true → P (flowPerformed r t effects .after)) → P t
+      → P (flowPerformed r t effects .after)
+  by-soundness r P other kept same-tables =
+      by-test (sound t) kept (λ s. rw (flow-unsound-refused r t effects other s) same-tables)
+
+  -- every request keeps the length of each table
+  pub flow-lengths : (r : FlowRequest) → SameLengths t (flowPerformed r t effects .after)
+  flow-lengths =
+      by-flow-setup (λ r. SameLengths t (flowPerformed r t effects .after))
+      (λ s. rw (plain-is (Setup s) t effects) (setup-lengths s t))
+      (λ r other. by-soundness r (SameLengths t) other (λ s. sound-lengths t s effects r) (same-lengths t))
+
+  -- the words of a place that the request does not write are as they were
+  pub flow-writes-only : (r : FlowRequest) (p : Place) → within p t ≡ true → flowWrites r t p ≡ false
+      → wordsAt p (flowPerformed r t effects .after) ≡ wordsAt p t
+  unfolding flowWrites writes
+  flow-writes-only r p w =
+      by-flow-setup (λ r. flowWrites r t p ≡ false → wordsAt p (flowPerformed r t effects .after) ≡ wordsAt p t)
+      (λ s e. absurd (false≢true (sym e)))
+      (λ r other e. by-soundness r (λ t′. wordsAt p t′ ≡ wordsAt p t) other (λ s. sound-writes-only t s effects r p w e) refl)
+      r
+
+  -- words past the tables are as they were, for every request but a setup
+  pub flow-past-kept : (r : FlowRequest) → isFlowSetup r ≡ false
+      → past (harts t) (hardwareHarts t) (flowPerformed r t effects .after) ≡ past (harts t) (hardwareHarts t) t
+  flow-past-kept r other =
+      by-soundness r (λ t′. past (harts t) (hardwareHarts t) t′ ≡ past (harts t) (hardwareHarts t) t) other (λ s. sound-past-kept t s effects r other) refl
 
 -- ---- the effects room, of any tables
 

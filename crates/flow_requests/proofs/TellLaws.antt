@@ -16,7 +16,7 @@ use Rattle.table_rows.specs.Rows.{row, over}
 use Rattle.table_rows.proofs.PickLaws.{by-test}
 use Rattle.confidential_hart_remote_command.specs.declared.ConfidentialHartRemoteCommand.{ConfidentialHartRemoteCommand}
 use Rattle.confidential_hart_remote_command.specs.Selection.{selects}
-use Rattle.remote_commands.specs.Queue.{count, commandAt, emptied}
+use Rattle.remote_commands.specs.Queue.{queueWords, count, commandAt, emptied, offered}
 use Rattle.remote_commands.proofs.OfferLaws.{commands-length}
 use Rattle.effects.specs.Effects.{effectWords, effectOf, effectsOf, shutsDown}
 use Rattle.effects.proofs.EffectLaws.{effect-at}
@@ -29,16 +29,17 @@ use Rattle.hart_rows.specs.Rows.{hartWords, hartAt}
 use Rattle.hart_rows.proofs.HartRowLaws.{load-store}
 use Rattle.monitor_requests.specs.declared.Answer.{Answer}
 use Rattle.monitor_requests.specs.declared.Answer.the-variants.{Refused, Done, Mask, State, Flag, Count, Run, PoweredOff, Operation}
-use Rattle.monitor_requests.specs.Tables.{Tables, hardwareHart, queue}
+use Rattle.monitor_requests.specs.Tables.{Tables, harts, hardwareHart, queue}
 use Rattle.monitor_requests.specs.Answers.{given}
-use Rattle.monitor_requests.specs.Requests.{judged}
+use Rattle.monitor_requests.specs.Requests.{withHardware, receives}
 use Rattle.monitor_requests.proofs.JudgedLaws.{Passed, by-errors, judged-map}
 use Rattle.monitor_requests.proofs.SoundLaws.{sound-sized}
 use Rattle.monitor_requests.proofs.MoveLaws.{hardware-fits, six-registers}
-use Rattle.monitor_requests.proofs.BroadcastLaws.{refuser, Masked, RefusedAt, send-mask, send-eight}
+use Rattle.monitor_requests.proofs.BroadcastLaws.{masked, refuser, Masked, RefusedAt, send-mask, send-queues, send-eight}
 use Rattle.flow_requests.specs.declared.FlowRequest.the-variants.{Broadcast, Process, Resume}
 use Rattle.flow_requests.specs.FlowRequests.{
   FlowOutcome,
+  flowOutcome,
   flowRefusedOn,
   flowTests,
   doing,
@@ -51,8 +52,8 @@ use Rattle.flow_requests.specs.FlowRequests.{
   flowEffect,
   flowPerformed,
 }
-use Rattle.flow_requests.proofs.DoingLaws.{Own, own-stands, by-going, did-hart, processed-empty}
-use Rattle.flow_requests.proofs.FlowLaws.{by-flow, by-broadcast, broadcast-held, process-held, resume-tests, processed-sound}
+use Rattle.flow_requests.proofs.DoingLaws.{OwnStands, own-stands, by-going, did-hart, processed-empty}
+use Rattle.flow_requests.proofs.FlowLaws.{by-flow, by-broadcast, Held, isRefused, broadcast-held, process-held, resume-tests, processed-sound}
 
 -- ---- the record of a held hart that did commands: PoweredOff where one of them shuts down, and else as it was
 
@@ -61,13 +62,30 @@ afterDoing cs x = moved (pick (shutsDown cs) poweredOff (x .lifecycle)) (x .regi
 
 -- ---- process
 
--- the count is the queue's length before, and as many effects are written: record i is command i of the queue, done by the held hart. The queue is
--- empty afterwards
+-- the held hart k did every command of its queue: as many effects are written as waited, record i is command i, and the queue is empty
+pub record AllDone (k : ℕ) (t : Tables) (did : ℕ) (effects queues : List ℕ) : Type 0 where
+  pub held-real : Held t k
+  pub did-all : did ≡ count (queue t (heldId t k))
+  pub record-at : (i : ℕ) → i < did → row effectWords effects i ≡ effectOf (heldId t k) (commandAt (queue t (heldId t k)) i)
+  pub queue-empty : row queueWords queues (heldId t k) ≡ emptied
+
+all-done : (k : ℕ) (t : Tables) (effects : List ℕ) → Held t k
+    → AllDone k t (length (heldCommands t k)) (over (effectsOf (heldId t k) (heldCommands t k)) effects)
+    (processed (heldCommands t k) k (heldId t k) t .queues)
+all-done k t effects x =
+    let h = heldId t k in
+    let long = commands-length (queue t h) in
+    record {
+      held-real = x;
+      did-all = long;
+      record-at = λ i l. effect-at h (queue t h) effects i (rw (← long) l);
+      queue-empty = processed-empty t (x .tables-sound) h (x .id-below) (heldCommands t k) k;
+    }
+
+-- the count is the queue's length before, and a shutdown request among the commands, and nothing else, powers the hart off
 pub record Processed (k : ℕ) (t : Tables) (o : FlowOutcome) (n : ℕ) : Type 0 where
   pub counted : n ≡ count (queue t (heldId t k))
-  pub did-all : o .did ≡ n
-  pub record-at : (i : ℕ) → i < n → row effectWords (o .effects) i ≡ effectOf (heldId t k) (commandAt (queue t (heldId t k)) i)
-  pub queue-empty : queue (o .after) (heldId t k) ≡ emptied
+  pub every-done : AllDone k t (o .did) (o .effects) (o .after .queues)
   pub hart-after : hardwareHart (o .after) k ≡ afterDoing (heldCommands t k) (hardwareHart t k)
 
 abbrev countIn : Answer → ℕ
@@ -81,22 +99,12 @@ countIn Run = 0
 countIn PoweredOff = 0
 countIn (Operation kind x y) = 0
 
-abbrev isMask : Answer → Bool
-isMask (Refused e) = false
-isMask Done = false
-isMask (Mask mask) = true
-isMask (State state) = false
-isMask (Flag flag) = false
-isMask (Count count) = false
-isMask Run = false
-isMask PoweredOff = false
-isMask (Operation kind x y) = false
-
 -- the error is not 8
 abbrev notEight : Error → Bool
 notEight e = not (eqb (numberOf e) reachedMaxNumberOfRemoteCommands)
 
-abbrev isCount : Answer → Bool
+-- the answer is a count
+abbrev pub isCount : Answer → Bool
 isCount (Refused e) = false
 isCount Done = false
 isCount (Mask mask) = false
@@ -116,14 +124,9 @@ process-count on t effects n =
     (λ _ q. absurd (false≢true (ap isCount q)))
     (λ p q.
     let x = process-held on t effects p in
-    let h = heldId t (on .0) in
-    let all : length (heldCommands t (on .0)) ≡ n = ap countIn q in
-    let long = commands-length (queue t h) in
     record {
-      counted = sym all ∙ long;
-      did-all = all;
-      record-at = λ i l. effect-at h (queue t h) effects i (rw (sym long ∙ all) l);
-      queue-empty = processed-empty t (x .tables-sound) h (x .id-below) (heldCommands t (on .0)) (on .0);
+      counted = sym (ap countIn q) ∙ commands-length (queue t (heldId t (on .0)));
+      every-done = all-done (on .0) t effects x;
       hart-after = did-hart t (x .tables-sound) (on .0) (x .k-below) (heldCommands t (on .0)) (x .real);
     })
 
@@ -146,7 +149,7 @@ module _ (on : HardwareHartId) (c : ConfidentialHartRemoteCommand) (t : Tables) 
   abbrev own : Tables
   own = doing (ownCommands c h) (on .0) t
 
-  own-done : (o : FlowOutcome) → Own c (on .0) h t effects o → Passed (flowTests (Broadcast on c) t effects) → OwnDone c (on .0) t effects o
+  own-done : (o : FlowOutcome) → OwnStands c (on .0) h t effects o → Passed (flowTests (Broadcast on c) t effects) → OwnDone c (on .0) t effects o
   own-done o w p =
       let x = broadcast-held on c t effects p in
       record {
@@ -162,7 +165,7 @@ module _ (on : HardwareHartId) (c : ConfidentialHartRemoteCommand) (t : Tables) 
   broadcast-mask mask =
       by-broadcast on c t effects
       (λ (o : FlowOutcome). o .answer ≡ Mask mask → Masked h c t mask × OwnDone c (on .0) t effects o)
-      (λ _ q. absurd (false≢true (ap isMask q)))
+      (λ _ q. absurd (false≢true (ap masked q)))
       (λ o w p q.
       let m = send-mask h c own mask (sym (w .answer-own) ∙ q) in (
         record {
@@ -174,6 +177,16 @@ module _ (on : HardwareHartId) (c : ConfidentialHartRemoteCommand) (t : Tables) 
         },
         own-done o w p,
       ))
+
+  -- and then each hart that receives has the command offered, and the queue of every other is as it was
+  pub broadcast-queues : (mask : ℕ) → flowPerformed (Broadcast on c) t effects .answer ≡ Mask mask → (j : ℕ) → j < harts t
+      → queue (flowPerformed (Broadcast on c) t effects .after) j ≡ pick (receives (t .home) h c j) (offered (queue t j) c .queue) (queue t j)
+  broadcast-queues mask e j l =
+      by-broadcast on c t effects
+      (λ (o : FlowOutcome). o .answer ≡ Mask mask → queue (o .after) j ≡ pick (receives (t .home) h c j) (offered (queue t j) c .queue) (queue t j))
+      (λ _ q. absurd (false≢true (ap masked q)))
+      (λ o w p q. rw (w .after-own) (send-queues h c own mask (sym (w .answer-own) ∙ q) j l))
+      e
 
   -- 8: the first receiver that has 64 refuses, and what the sender did itself stands
   pub broadcast-eight : flowPerformed (Broadcast on c) t effects .answer ≡ Refused ReachedMaxNumberOfRemoteCommands
@@ -249,31 +262,26 @@ resume-tells on t effects =
     rw (← (did-hart t (x .tables-sound) (on .0) (x .k-below) cs (x .real)))
     (goes-tells (t′ .hardware) (on .0) (hardware-fits t′ (sound-sized t′ (processed-sound t (on .0) x cs)) (on .0) (x .k-below))))
 
+-- what a resume makes of a process: one that is done goes on, and a refusal stays
+abbrev pub continued : ℕ → FlowOutcome → FlowOutcome
+continued k o =
+    pick (isCount (o .answer))
+    (flowOutcome (goesOn (o .after .hardware) k .answer) (o .did) (withHardware (goesOn (o .after .hardware) k .hardware) (o .after)) (o .effects))
+    o
+
 module _ (on : HardwareHartId) (t : Tables) (effects : List ℕ) where
-  same-as-process : {A : Type 0} (f : FlowOutcome → A) → f (flowEffect (Resume on) t effects) ≡ f (flowEffect (Process on) t effects)
-      → f (flowPerformed (Resume on) t effects) ≡ judged (λ e. f (flowRefusedOn t effects e)) (flowTests (Process on) t effects) (f (flowEffect (Process on) t effects))
-  unfolding flowPerformed flowTests
-  same-as-process f e =
-      judged-map f (flowRefusedOn t effects) (flowEffect (Resume on) t effects) (flowTests (Resume on) t effects)
-      ∙ ap (judged (λ x. f (flowRefusedOn t effects x)) (flowTests (Process on) t effects)) e
+  -- a resume is a process that goes on
+  pub resume-is : flowPerformed (Resume on) t effects ≡ continued (on .0) (flowPerformed (Process on) t effects)
+  unfolding flowPerformed flowTests flowEffect pick
+  resume-is = sym (judged-map (continued (on .0)) (flowRefusedOn t effects) (flowEffect (Process on) t effects) (flowTests (Process on) t effects))
 
-  as-process : {A : Type 0} (f : FlowOutcome → A) → f (flowEffect (Resume on) t effects) ≡ f (flowEffect (Process on) t effects)
-      → f (flowPerformed (Resume on) t effects) ≡ f (flowPerformed (Process on) t effects)
-  unfolding flowPerformed
-  as-process f e =
-      same-as-process f e ∙ sym (judged-map f (flowRefusedOn t effects) (flowEffect (Process on) t effects) (flowTests (Process on) t effects))
-
-  -- it does the commands that a process does
-  pub resume-did : flowPerformed (Resume on) t effects .did ≡ flowPerformed (Process on) t effects .did
+  -- one that is not refused did every command of the queue, as a process does
+  pub resume-done : isRefused (flowPerformed (Resume on) t effects .answer) ≡ false
+      → AllDone (on .0) t (flowPerformed (Resume on) t effects .did) (flowPerformed (Resume on) t effects .effects)
+      (flowPerformed (Resume on) t effects .after .queues)
   unfolding flowEffect
-  resume-did = as-process (λ (o : FlowOutcome). o .did) refl
-
-  -- with the same effects
-  pub resume-effects : flowPerformed (Resume on) t effects .effects ≡ flowPerformed (Process on) t effects .effects
-  unfolding flowEffect
-  resume-effects = as-process (λ (o : FlowOutcome). o .effects) refl
-
-  -- and leaves the same queues
-  pub resume-queues : flowPerformed (Resume on) t effects .after .queues ≡ flowPerformed (Process on) t effects .after .queues
-  unfolding flowEffect
-  resume-queues = as-process (λ (o : FlowOutcome). o .after .queues) refl
+  resume-done =
+      by-flow (Resume on) t effects
+      (λ (o : FlowOutcome). isRefused (o .answer) ≡ false → AllDone (on .0) t (o .did) (o .effects) (o .after .queues))
+      (λ _ q. absurd (false≢true (sym q)))
+      (λ p _. all-done (on .0) t effects (process-held on t effects (resume-tests on t effects p)))

@@ -1,4 +1,4 @@
--- What the monitor is, with the requests that do commands: for each request its tests in order, and then its effect.
+-- What the monitor is, with the requests that do commands: for each request its tests in order, and then what it does.
 use Prim.Native.Nat.{ℕ, _*_}
 use mathlib.Core.Bool.{not}
 use mathlib.Core.List.{List, [], _∷_}
@@ -54,15 +54,19 @@ flowOutcome answer did after effects = record { answer = answer; did = did; afte
 
 -- what an entry gives, with the tables and the effects room that it leaves
 abbrev pub answered : FlowAnswer → Tables → List ℕ → FlowOutcome
-answered a after effects = flowOutcome (a .answer) (a .effects) after effects
+answered a after effects = flowOutcome (a .answer) (a .did) after effects
+
+-- what an entry gives that has this outcome
+abbrev pub answerIn : FlowOutcome → FlowAnswer
+answerIn o = record { answer = o .answer; did = o .did }
 
 -- its number, and its values: how many effect records were written, and then those of the answer
 abbrev pub flowGiven : FlowAnswer → Given
-flowGiven a = record { number = given (a .answer) .number; values = a .effects ∷ given (a .answer) .values }
+flowGiven a = record { number = given (a .answer) .number; values = a .did ∷ given (a .answer) .values }
 
 -- a refusal before any command was done
 abbrev pub refusedAnswer : Error → FlowAnswer
-refusedAnswer error = record { answer = Refused error; effects = 0 }
+refusedAnswer error = record { answer = Refused error; did = 0 }
 
 -- it changes nothing
 abbrev pub flowRefusedOn : Tables → List ℕ → Error → FlowOutcome
@@ -151,7 +155,7 @@ resumed k t = outcome (goesOn (t .hardware) k .answer) (withHardware (goesOn (t 
 abbrev pub resumes : List ConfidentialHartRemoteCommand → ℕ → ℕ → Tables → List ℕ → FlowOutcome
 resumes cs k h t effects = withEffects h cs (resumed k (processed cs k h t)) effects
 
--- ---- effects
+-- ---- what each request does
 
 -- the number of the hart that hardware hart k holds
 abbrev pub heldId : Tables → ℕ → ℕ
@@ -161,7 +165,7 @@ heldId t k = hardwareHart t k .id
 abbrev pub heldCommands : Tables → ℕ → List ConfidentialHartRemoteCommand
 heldCommands t k = commands (queue t (heldId t k))
 
--- the effect of each request, once its tests are passed
+-- what each request does, once its tests are passed
 unfoldable pub flowEffect : FlowRequest → Tables → List ℕ → FlowOutcome
 flowEffect (Plain r) t effects = flowOutcome (effect r t .answer) 0 (effect r t .after) effects
 flowEffect (Broadcast on c) t effects = broadcasts c (on .0) (heldId t (on .0)) t effects

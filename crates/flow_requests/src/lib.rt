@@ -24,7 +24,7 @@ pub enum FlowRequest {
 // may have written one.
 pub struct FlowAnswer {
     pub answer: Answer,
-    pub effects: u64,
+    pub did: u64,
 }
 
 impl FlowAnswer {
@@ -34,7 +34,7 @@ impl FlowAnswer {
     {
         FlowAnswer {
             answer: Answer::Refused(e),
-            effects: 0,
+            did: 0,
         }
     }
 }

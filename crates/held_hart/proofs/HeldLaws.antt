@@ -48,19 +48,19 @@ module _ (c : ConfidentialHartRemoteCommand) (h : ℕ) where
 
   module _ (rows : List ℕ) (k : ℕ) (room : List ℕ) where
     -- a count, rows and a room as they are once hart h has done its own commands
-    abbrev pub Own : ℕ → List ℕ → List ℕ → Type 0
-    Own n after written =
+    abbrev pub DidOwn : ℕ → List ℕ → List ℕ → Type 0
+    DidOwn n after written =
         (n ≡ length (ownCommands c h)) × (after ≡ didRows (ownCommands c h) rows k) × (written ≡ over (effectsOf h (ownCommands c h)) room)
 
     -- a sender that is not selected leaves all as it was
-    pub own-none : selects c h ≡ false → Own 0 rows room
+    pub own-none : selects c h ≡ false → DidOwn 0 rows room
     own-none e = rw (own-passed e) (refl, did-rows [] rows k (sym shuts-down-none) (no _ refl refl), sym (no-effects h room))
 
     -- one that is selected does the command
     pub own-one : selects c h ≡ true → {off : Bool} {after written : List ℕ} → off ≡ isShutdown c
         → after ≡ pick off (put hartWords rows k (toWords (afterOff (hartAt rows k) .hart))) rows
         → written ≡ put effectWords room 0 (effectOf h c)
-        → Own 1 after written
+        → DidOwn 1 after written
     own-one e told done wrote =
         rw (own-selected e) (refl, did-rows (c ∷ []) rows k (told ∙ sym (shuts-down-one c)) done, wrote ∙ one-effect h c room)
 

@@ -1,80 +1,17 @@
 // The entries as C functions: plain numbers and lent tables in, and document 01's number back. An answer's values go over the front of one
 // more lent slice. Each promises what the entry that it calls promises, for any numbers and any tables.
 ghost use mathlib.Core.Path.{_≡_};
-ghost use mathlib.Core.List.{[], _∷_};
-ghost use Prim.Native.Nat.{_≤_};
-ghost use lib.ListN.{length};
 ghost use Rattle.table_rows.specs.Choice.{pick};
-ghost use Rattle.error.specs.Error.{done};
 ghost use Rattle.monitor_requests.specs.declared.Request.the-variants.{Setup as RequestSetup, Steal, Return, Start, Status, Home, Send, Allow, Add, Remove, Defined};
 ghost use Rattle.monitor_requests.specs.Tables.{tables, sound};
-ghost use Rattle.monitor_requests.specs.Answers.{op};
-ghost use Rattle.table_rows.specs.Rows.{over};
-ghost use Rattle.monitor_exports.specs.Exports.{hartId, hardwareHartId, setupOf, commandOf, valueWords, written, told, exported, valued, numbered, unvalued};
+ghost use Rattle.export_values.specs.Exports.{hartId, hardwareHartId, setupOf, commandOf, exported, valued, numbered, unvalued};
 use confidential_hart::ConfidentialHartId;
 use confidential_hart::HardwareHartId;
 use confidential_hart_remote_command::ConfidentialHartRemoteCommand;
-use monitor_requests::Answer;
 use monitor_requests::Setup;
 
 // How many words are asked for an answer's values: an operation has the most.
 const VALUE_WORDS: usize = 4;
-
-// The first value of an answer that says what a hart goes on with.
-const RUN: u64 = 0;
-
-const OFF: u64 = 1;
-
-const OP: u64 = 2;
-
-// A truth as a number: 1 or 0.
-fn word_of(flag: bool) -> u64
-    ensures { λ r. ⌜ r ≡ pick flag 1 0 ⌝ }
-{
-    if flag {
-        return 1;
-    }
-    0
-}
-
-// Writes a value, and gives 0.
-fn tell_value(word: u64, value: &mut [u64]) -> u64
-    requires { ⌜ valueWords ≤ length (now value) ⌝ }
-    ensures { λ r. ⌜ written r (now (value .exit)) ≡ written done (over (word ∷ []) (now (value .entry))) ⌝ }
-{
-    value[0] = word;
-    error::DONE
-}
-
-// Writes what says that an operation is over, its kind and its two numbers, and gives 0.
-fn tell_operation(kind: u64, x: u64, y: u64, value: &mut [u64]) -> u64
-    requires { ⌜ valueWords ≤ length (now value) ⌝ }
-    ensures { λ r. ⌜ written r (now (value .exit)) ≡ written done (over (op ∷ kind ∷ x ∷ y ∷ []) (now (value .entry))) ⌝ }
-{
-    value[0] = OP;
-    value[1] = kind;
-    value[2] = x;
-    value[3] = y;
-    error::DONE
-}
-
-// Writes the values of an answer, and gives its number.
-fn tell(answer: Answer, value: &mut [u64]) -> u64
-    requires { ⌜ valueWords ≤ length (now value) ⌝ }
-    ensures { λ r. ⌜ written r (now (value .exit)) ≡ told answer (now (value .entry)) ⌝ }
-{
-    match answer {
-        Answer::Refused(e) => e.number(),
-        Answer::Done => error::DONE,
-        Answer::Mask(mask) => tell_value(mask, value),
-        Answer::State(state) => tell_value(state, value),
-        Answer::Flag(flag) => tell_value(word_of(flag), value),
-        Answer::Count(count) => tell_value(count, value),
-        Answer::Run => tell_value(RUN, value),
-        Answer::PoweredOff => tell_value(OFF, value),
-        Answer::Operation(kind, x, y) => tell_operation(kind, x, y, value),
-    }
-}
 
 // Whether the tables are sound, as 1 or 0.
 #[no_mangle]
@@ -87,7 +24,7 @@ pub extern "C" fn oudrameng_are_tables_sound(
 ) -> u64
     ensures { λ r. ⌜ r ≡ pick (sound (tables (now (head .entry)) (now (home .entry)) (now (hardware .entry)) (now (queues .entry)) (now (regions .entry)))) 1 0 ⌝ }
 {
-    word_of(sound_tables::are_tables_sound(head, home, hardware, queues, regions))
+    export_values::word_of(sound_tables::are_tables_sound(head, home, hardware, queues, regions))
 }
 
 // Sets up a VM.
@@ -146,7 +83,7 @@ pub extern "C" fn oudrameng_steal_confidential_hart(
         queues,
         regions,
     );
-    tell(answer, value)
+    export_values::tell(answer, value)
 }
 
 // Takes the hart of a hardware hart home.
@@ -236,7 +173,7 @@ pub extern "C" fn oudrameng_confidential_hart_lifecycle_state(
         queues,
         regions,
     );
-    tell(answer, value)
+    export_values::tell(answer, value)
 }
 
 // The value is 1 where every hart is at home, and else 0.
@@ -255,7 +192,7 @@ pub extern "C" fn oudrameng_is_vm_executing(
         return error::ROOM_TOO_SHORT;
     }
     let answer = confidential_vm_lifecycle::is_vm_executing(head, home, hardware, queues, regions);
-    tell(answer, value)
+    export_values::tell(answer, value)
 }
 
 // Sends a command. The value is the mask of hardware harts to interrupt.
@@ -297,7 +234,7 @@ pub extern "C" fn oudrameng_broadcast_remote_command(
         queues,
         regions,
     );
-    tell(answer, value)
+    export_values::tell(answer, value)
 }
 
 // Adds a region.
@@ -374,5 +311,5 @@ pub extern "C" fn oudrameng_is_mmio_region_defined(
         queues,
         regions,
     );
-    tell(answer, value)
+    export_values::tell(answer, value)
 }

@@ -407,7 +407,8 @@ maskIn Run = 0
 maskIn PoweredOff = 0
 maskIn (Operation kind x y) = 0
 
-abbrev masked : Answer → Bool
+-- the answer is a mask
+abbrev pub masked : Answer → Bool
 masked (Refused e) = false
 masked Done = false
 masked (Mask mask) = true

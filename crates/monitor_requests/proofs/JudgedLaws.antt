@@ -9,6 +9,7 @@ use Rattle.error.specs.Error.{numberOf, tablesNotSound}
 use Rattle.table_rows.specs.Lists.{allOf}
 use Rattle.table_rows.specs.Choice.{pick}
 use Rattle.table_rows.proofs.PickLaws.{yes, no, by-pick, and-left, and-right, not-yes, not-no}
+use Rattle.monitor_requests.specs.declared.Setup as declared
 use Rattle.monitor_requests.specs.declared.Request.{Request}
 use Rattle.monitor_requests.specs.declared.Request.the-variants.{
   Setup,
@@ -110,6 +111,25 @@ isSetup (Allow bits) = false
 isSetup (Add base size) = false
 isSetup (Remove base size) = false
 isSetup (Defined base size) = false
+
+-- a request is a setup, or it is none
+pub by-setup : (P : Request → Type 0) → ((s : declared.Setup) → P (Setup s)) → ((r : Request) → isSetup r ≡ false → P r) → (r : Request) → P r
+by-setup P setup other (Setup s) = setup s
+by-setup P setup other (Steal hart on) = other (Steal hart on) refl
+by-setup P setup other (Return on) = other (Return on) refl
+by-setup P setup other (Start hart address opaque) = other (Start hart address opaque) refl
+by-setup P setup other (Suspend on) = other (Suspend on) refl
+by-setup P setup other (Stop on) = other (Stop on) refl
+by-setup P setup other (Wake on address opaque) = other (Wake on address opaque) refl
+by-setup P setup other (Off on) = other (Off on) refl
+by-setup P setup other (Await on kind x y) = other (Await on kind x y) refl
+by-setup P setup other (Status hart) = other (Status hart) refl
+by-setup P setup other Home = other Home refl
+by-setup P setup other (Send sender c) = other (Send sender c) refl
+by-setup P setup other (Allow bits) = other (Allow bits) refl
+by-setup P setup other (Add base size) = other (Add base size) refl
+by-setup P setup other (Remove base size) = other (Remove base size) refl
+by-setup P setup other (Defined base size) = other (Defined base size) refl
 
 -- the tests after the first
 abbrev pub later : List Test → List Test

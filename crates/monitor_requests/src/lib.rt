@@ -45,7 +45,7 @@ pub enum Request {
     Return(HardwareHartId),
     // a hart, an address and an opaque number
     Start(ConfidentialHartId, u64, u64),
-    // these four are for the hart that a hardware hart holds
+    // this and the next four are for the hart that a hardware hart holds
     Suspend(HardwareHartId),
     Stop(HardwareHartId),
     // an address and an opaque number
@@ -76,7 +76,7 @@ pub enum Answer {
     Flag(bool),
     // how many commands were done
     Count(u64),
-    // what a hart goes on with: it runs, it is powered off, or the operation that it waited for is over, which has a kind and two numbers
+    // what a hart goes on with: it runs, it is powered off, or the operation that it waited for, a kind and two numbers, is taken
     Run,
     PoweredOff,
     Operation(u64, u64, u64),

@@ -4,7 +4,7 @@ use native.Mathlib.Omega.{arith}
 use Rattle.confidential_hart.specs.Transition.{afterSuspend}
 use Rattle.monitor_requests.specs.Requests.{effect}
 use borrow.Author.Needs.{needs}
-use Rattle.confidential_flow_lifecycle.proofs.HeldLaws.{missing-refused, idle-refused, step-refused, step-done, suspend-listed}
+use Rattle.confidential_flow_lifecycle.proofs.StepLaws.{missing-refused, idle-refused, step-refused, step-done, suspend-listed}
 use Rattle.confidential_flow_lifecycle.proofs.suspend.Statement.{statement}
 use Rattle.confidential_flow_lifecycle.proofs.suspend.Tie as tie
 

@@ -1,8 +1,6 @@
 -- `confidential_flow_remote_commands::broadcast` meets its contract: the tests, then what the sender does, then the tables' broadcast. Assumes nothing.
-use Prim.Native.Nat.{ℕ}
-use mathlib.Core.Path.{_≡_, refl, sym, ap, _∙_}
-use mathlib.Core.Bool.{true, not}
-use mathlib.Core.List.{List}
+use mathlib.Core.Path.{refl, sym, ap, _∙_}
+use mathlib.Core.Bool.{not}
 use borrow.Author.Tests.{lt-ltb, le-ltb, le-leb, lt-leb}
 use Rattle.table_rows.proofs.PickLaws.{yes, no, not-no}
 use Rattle.flow_requests.specs.FlowRequests.{flowTests, flowEffect, flowPerformed}
@@ -60,45 +58,48 @@ returns-4 c =
 broadcast-requires : tie.Need-broadcast-requires
 broadcast-requires c κs =
     let did = c .before .before .before .before .before .before in
-    let there = c .before .before .before .before .before .before .before .before .before .before .before .before .before .before in
-    let start = c .before .before .before .before .before .before .before .before .before .before .before .before .before .before .before .before .before .before .before .before .before .before .before .before .before .before in
+    let held = did .before .before .before .before .before in
+    let there = held .before .before .before in
+    let room = there .before .before .before .before .before in
+    let start = room .before .before .before .before .before .before .before in
     sent-sound _ _ _ _ _ (did .execute-own .ensures) (start .pre .1) (there .if3 .left)
 
 returns-5 : tie.Need-returns-5
 unfolding flowPerformed flowTests flowEffect
 returns-5 c =
     let sent = c .before .before in
-    let did = c .before .before .before .before .before .before .before .before .before in
-    let held = c .before .before .before .before .before .before .before .before .before .before .before .before .before .before in
-    let there = c .before .before .before .before .before .before .before .before .before .before .before .before .before .before .before .before .before in
-    let form = c .before .before .before .before .before .before .before .before .before .before .before .before .before .before .before .before .before .before .before .before in
-    let room = c .before .before .before .before .before .before .before .before .before .before .before .before .before .before .before .before .before .before .before .before .before .before in
-    let start = c .before .before .before .before .before .before .before .before .before .before .before .before .before .before .before .before .before .before .before .before .before .before .before .before .before .before .before .before .before in
+    let did = sent .before .before .before .before .before .before .before in
+    let named = did .before .before .before in
+    let held = named .before .before in
+    let there = held .before .before .before in
+    let form = there .before .before .before in
+    let room = form .before .before in
+    let start = room .before .before .before .before .before .before .before in
     no _ (not-no _ (start .pre .1))
     (no _ (le-ltb _ _ (room .if1 .left))
     (no _ (ap not (sym (form .before .is-well-formed .ensures)) ∙ form .if2 .left)
     (no _ (lt-leb _ _ (there .if3 .left))
     (no _ (sym (held .before .is-dummy .ensures) ∙ held .if4 .left)
-    (sent-is _ _ _ _ _ (did .execute-own .ensures) (c .before .before .before .before .before .before .before .before .before .before .before .before .id .ensures) (sent .broadcast .ensures))))))
+    (sent-is _ _ _ _ _ (did .execute-own .ensures) (named .id .ensures) (sent .broadcast .ensures))))))
 
 pub broadcast-spec : {M : Type 1} → statement M
 broadcast-spec =
     tie.close
     (tie.spec
-    (λ c. search needs)
+    (λ c κs. search needs)
     returns
-    (λ c. search needs)
-    (λ c. search needs)
+    (λ c κs. search needs)
+    (λ c κs. search needs)
     returns-2
     (λ c. search needs)
-    (λ c. search needs)
+    (λ c κs. search needs)
     returns-3
-    (λ c. search needs)
-    (λ c. search needs)
+    (λ c κs. search needs)
+    (λ c κs. search needs)
     (λ c. search needs)
     returns-4
-    (λ c. search needs)
-    (λ c. search needs)
+    (λ c κs. search needs)
+    (λ c κs. search needs)
     broadcast-requires
     (λ c. search needs)
     (λ c. search needs)

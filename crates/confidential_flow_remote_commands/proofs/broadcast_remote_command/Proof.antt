@@ -1,5 +1,5 @@
 -- `confidential_flow_remote_commands::broadcast_remote_command` meets its contract: 12 first, and then what sound tables have. Assumes nothing.
-use mathlib.Core.Path.{refl, sym, ap, _∙_}
+use mathlib.Core.Path.{refl, sym, _∙_}
 use borrow.Author.Tests.{not-true, not-false}
 use Rattle.monitor_requests.proofs.SoundLaws.{sound-sized}
 use Rattle.flow_requests.specs.declared.FlowRequest.the-variants.{Broadcast}
@@ -24,8 +24,8 @@ pub broadcast-remote-command-spec : {M : Type 1} → statement M
 broadcast-remote-command-spec =
     tie.close
     (tie.spec
-    (λ c. search needs)
-    (λ c. search needs)
+    (λ c κs. search needs)
+    (λ c κs. search needs)
     (λ c. search needs)
     (λ c. search needs)
     returns

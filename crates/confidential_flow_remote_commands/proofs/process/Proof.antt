@@ -1,6 +1,5 @@
 -- `confidential_flow_remote_commands::process` meets its contract: the tests, and then what the held hart does. Assumes nothing.
 use mathlib.Core.Path.{refl, sym, _∙_}
-use native.Mathlib.Omega.{arith}
 use borrow.Author.Tests.{lt-ltb, le-ltb, le-leb, lt-leb}
 use Rattle.table_rows.proofs.PickLaws.{yes, no, not-no}
 use Rattle.flow_requests.specs.FlowRequests.{flowTests, flowEffect, flowPerformed}
@@ -69,16 +68,16 @@ process-spec =
     tie.close
     (tie.spec
     (λ c. search needs)
-    (λ c. search needs)
+    (λ c κs. search needs)
     returns
     (λ c. search needs)
-    (λ c. search needs)
+    (λ c κs. search needs)
     returns-2
-    (λ c. search needs)
-    (λ c. search needs)
+    (λ c κs. search needs)
+    (λ c κs. search needs)
     (λ c. search needs)
     returns-3
-    (λ c. search needs)
+    (λ c κs. search needs)
     execute-queued-requires
     (λ c. search needs)
     (λ c. search needs)

@@ -1,5 +1,5 @@
 -- `confidential_flow_remote_commands::process_confidential_hart_remote_commands` meets its contract: 12 first, and then what sound tables have. Assumes nothing.
-use mathlib.Core.Path.{refl, sym, ap, _∙_}
+use mathlib.Core.Path.{refl, sym, _∙_}
 use borrow.Author.Tests.{not-true, not-false}
 use Rattle.monitor_requests.proofs.SoundLaws.{sound-sized}
 use Rattle.flow_requests.specs.declared.FlowRequest.the-variants.{Process}
@@ -24,8 +24,8 @@ pub process-confidential-hart-remote-commands-spec : {M : Type 1} → statement 
 process-confidential-hart-remote-commands-spec =
     tie.close
     (tie.spec
-    (λ c. search needs)
-    (λ c. search needs)
+    (λ c κs. search needs)
+    (λ c κs. search needs)
     (λ c. search needs)
     (λ c. search needs)
     returns

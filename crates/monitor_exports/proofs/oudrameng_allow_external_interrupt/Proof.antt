@@ -1,5 +1,5 @@
 -- `monitor_exports::oudrameng_allow_external_interrupt` meets its contract: the entry's answer, by its number. Assumes nothing.
-use Rattle.monitor_exports.proofs.ExportLaws.{number-told}
+use Rattle.export_values.proofs.ExportLaws.{number-told}
 use borrow.Author.Needs.{needs}
 use Rattle.monitor_exports.proofs.oudrameng_allow_external_interrupt.Statement.{statement}
 use Rattle.monitor_exports.proofs.oudrameng_allow_external_interrupt.Tie as tie

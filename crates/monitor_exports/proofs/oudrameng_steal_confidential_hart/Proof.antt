@@ -2,7 +2,7 @@
 use mathlib.Core.Path.{refl}
 use borrow.Author.Tests.{lt-ltb, le-ltb}
 use Rattle.table_rows.proofs.PickLaws.{yes, no}
-use Rattle.monitor_exports.proofs.ExportLaws.{value-told}
+use Rattle.export_values.proofs.ExportLaws.{value-told}
 use borrow.Author.Needs.{needs}
 use Rattle.monitor_exports.proofs.oudrameng_steal_confidential_hart.Statement.{statement}
 use Rattle.monitor_exports.proofs.oudrameng_steal_confidential_hart.Tie as tie

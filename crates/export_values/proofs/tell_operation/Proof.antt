@@ -1,13 +1,13 @@
--- `monitor_exports::tell_operation` meets its contract: the four stores are four words over the front. Assumes nothing.
+-- `export_values::tell_operation` meets its contract: the four stores are four words over the front. Assumes nothing.
 use mathlib.Core.Path.{ap}
 use native.Mathlib.Omega.{arith}
 use lib.ListN.{length-set}
 use Rattle.error.specs.Error.{done}
-use Rattle.monitor_exports.specs.Exports.{written}
-use Rattle.monitor_exports.proofs.ExportLaws.{four-over}
+use Rattle.export_values.specs.Exports.{written}
+use Rattle.export_values.proofs.ExportLaws.{four-over}
 use borrow.Author.Needs.{needs}
-use Rattle.monitor_exports.proofs.tell_operation.Statement.{statement}
-use Rattle.monitor_exports.proofs.tell_operation.Tie as tie
+use Rattle.export_values.proofs.tell_operation.Statement.{statement}
+use Rattle.export_values.proofs.tell_operation.Tie as tie
 
 returns : tie.Need-returns
 returns c = ap (written done) (four-over (c .args .value .now) _ _ _ _ (c .pre))

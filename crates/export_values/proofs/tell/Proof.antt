@@ -1,14 +1,14 @@
--- `monitor_exports::tell` meets its contract: case by case. Assumes nothing.
+-- `export_values::tell` meets its contract: case by case. Assumes nothing.
 use Prim.Native.Nat.{ℕ}
 use mathlib.Core.Path.{_≡_, refl, sym, ap, _∙_}
 use mathlib.Core.List.{List, [], _∷_}
 use Rattle.error.specs.Error.{done}
 use Rattle.monitor_requests.specs.declared.Answer.{Answer}
 use Rattle.table_rows.specs.Rows.{over}
-use Rattle.monitor_exports.specs.Exports.{Written, written, told}
+use Rattle.export_values.specs.Exports.{Written, written, told}
 use borrow.Author.Needs.{needs}
-use Rattle.monitor_exports.proofs.tell.Statement.{statement}
-use Rattle.monitor_exports.proofs.tell.Tie as tie
+use Rattle.export_values.proofs.tell.Statement.{statement}
+use Rattle.export_values.proofs.tell.Tie as tie
 
 -- what is told of the case that an answer is
 in-case : (words : List ℕ) {answer case : Answer} {w : Written} → answer ≡ case → w ≡ told case words → w ≡ told answer words

@@ -7,7 +7,7 @@ use lib.ListN.{length, set}
 use Rattle.monitor_requests.specs.Answers.{given}
 use Rattle.table_rows.specs.Rows.{over}
 use Rattle.monitor_requests.specs.Requests.{Outcome}
-use Rattle.monitor_exports.specs.Exports.{numbered, numberIn, valueWords, Written, written, told, exported, valueIn}
+use Rattle.export_values.specs.Exports.{numbered, numberIn, valueWords, Written, written, told, exported, valueIn}
 
 -- the number of the answer of o, where o is the definition's
 pub number-told : {o p : Outcome} {n : ℕ} → o ≡ p → n ≡ given (o .answer) .number → numbered n (o .after) ≡ numberIn p

@@ -1,8 +1,8 @@
--- `monitor_exports::word_of` meets its contract: one choice. Assumes nothing.
+-- `export_values::word_of` meets its contract: one choice. Assumes nothing.
 use mathlib.Core.Path.{refl}
 use Rattle.table_rows.proofs.PickLaws.{yes, no}
-use Rattle.monitor_exports.proofs.word_of.Statement.{statement}
-use Rattle.monitor_exports.proofs.word_of.Tie as tie
+use Rattle.export_values.proofs.word_of.Statement.{statement}
+use Rattle.export_values.proofs.word_of.Tie as tie
 
 returns : tie.Need-returns
 returns c = yes _ (c .if1 .taken) refl

@@ -1,0 +1,2 @@
+-- What belongs to no one function of `export_values`.
+pub mod ExportLaws

@@ -1,2 +1,0 @@
--- The definitions that the contracts of `monitor_exports` cite.
-pub mod Exports
