@@ -55,8 +55,7 @@ use Rattle.flow_requests.specs.FlowRequests.{
 use Rattle.flow_requests.proofs.DoingLaws.{OwnStands, own-stands, by-going, did-hart, processed-empty}
 use Rattle.flow_requests.proofs.FlowLaws.{by-flow, by-broadcast, Held, isRefused, broadcast-held, process-held, resume-tests, processed-sound}
 
--- ---- the record of a held hart that did commands: PoweredOff where one of them shuts down, and else as it was
-
+-- the record of a held hart that did commands: PoweredOff where one of them shuts down, and else as it was
 abbrev pub afterDoing : List ConfidentialHartRemoteCommand → ConfidentialHart → ConfidentialHart
 afterDoing cs x = moved (pick (shutsDown cs) poweredOff (x .lifecycle)) (x .registers) x
 

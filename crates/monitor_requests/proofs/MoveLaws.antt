@@ -411,21 +411,24 @@ start-sound hart address opaque t s =
     home-changed-sound t s 0 _ _ (hart .0) (leb-false _ _ (p .1 .0))
     (start-length (homeHart t (hart .0) .id) address opaque (homeHart t (hart .0) .registers)))
 
--- so do a suspend, a stop, a wake and an off
+-- so does a suspend
 pub suspend-sound : (on : HardwareHartId) (t : Tables) → sound t ≡ true → sound (performed (Suspend on) t .after) ≡ true
 unfolding tests effect
 suspend-sound on t s = effect-sound (Suspend on) t s (λ p. held-changed-sound t s 1 _ _ (on .0) (leb-false _ _ (p .1 .0)) refl)
 
+-- a stop
 pub stop-sound : (on : HardwareHartId) (t : Tables) → sound t ≡ true → sound (performed (Stop on) t .after) ≡ true
 unfolding tests effect
 stop-sound on t s = effect-sound (Stop on) t s (λ p. held-changed-sound t s 2 _ _ (on .0) (leb-false _ _ (p .1 .0)) refl)
 
+-- a wake
 pub wake-sound : (on : HardwareHartId) (address opaque : ℕ) (t : Tables) → sound t ≡ true → sound (performed (Wake on address opaque) t .after) ≡ true
 unfolding tests effect
 wake-sound on address opaque t s =
     effect-sound (Wake on address opaque) t s (λ p.
     held-changed-sound t s 3 _ _ (on .0) (leb-false _ _ (p .1 .0)) (wake-length address opaque (hardwareHart t (on .0) .registers)))
 
+-- an off
 pub off-sound : (on : HardwareHartId) (t : Tables) → sound t ≡ true → sound (performed (Off on) t .after) ≡ true
 unfolding tests effect
 off-sound on t s = effect-sound (Off on) t s (λ p. off-held-sound t s (on .0) (leb-false _ _ (p .1 .0)))
