@@ -12,13 +12,14 @@ use Rattle.monitor_requests.specs.declared.Answer.{Answer}
 use Rattle.monitor_requests.specs.declared.Answer.the-variants.{Refused, Done, Mask, State, Flag, Count, Run, PoweredOff, Operation}
 use Rattle.monitor_requests.specs.Tables.{Tables}
 use Rattle.monitor_requests.specs.Requests.{withHardware}
+use Rattle.monitor_requests.proofs.AnswerLaws.{isCount}
 use Rattle.monitor_requests.proofs.SoundLaws.{sound-sized}
 use Rattle.monitor_requests.proofs.MoveLaws.{hardware-fits}
 use Rattle.flow_requests.specs.declared.FlowAnswer.{FlowAnswer}
 use Rattle.flow_requests.specs.declared.FlowRequest.the-variants.{Process, Resume}
 use Rattle.flow_requests.specs.FlowRequests.{FlowOutcome, flowOutcome, answered, Going, going, goesOn, flowPerformed}
 use Rattle.flow_requests.proofs.FlowWriteLaws.{flow-lengths}
-use Rattle.flow_requests.proofs.TellLaws.{isCount, process-count, continued, resume-is}
+use Rattle.flow_requests.proofs.TellLaws.{process-count, continued, resume-is}
 
 no-count : (a : Answer) → ((n : ℕ) → a ≢ Count n) → isCount a ≡ false
 no-count (Refused e) ne = refl

@@ -10,7 +10,7 @@ use lib.ListN.{length}
 use lib.Dec.{eqb, leb}
 use borrow.Author.Tests.{leb-false, ltb-false, not-false}
 use Rattle.error.specs.declared.Error.{Error}
-use Rattle.error.specs.declared.Error.the-variants.{ReachedMaxNumberOfRemoteCommands, TablesNotSound, BadLine}
+use Rattle.error.specs.declared.Error.the-variants.{ReachedMaxNumberOfRemoteCommands, TablesNotSound}
 use Rattle.error.specs.Error.{numberOf, tablesNotSound}
 use Rattle.table_rows.specs.Lists.{allOf}
 use Rattle.table_rows.proofs.PickLaws.{yes, no, by-test, not-yes, not-no}
@@ -24,10 +24,11 @@ use Rattle.monitor_requests.specs.declared.Setup as declared
 use Rattle.monitor_requests.specs.declared.Request.{Request}
 use Rattle.monitor_requests.specs.declared.Request.the-variants.{Setup}
 use Rattle.monitor_requests.specs.declared.Answer.{Answer}
-use Rattle.monitor_requests.specs.declared.Answer.the-variants.{Refused, Done, Mask, State, Flag, Count, Run, PoweredOff, Operation}
+use Rattle.monitor_requests.specs.declared.Answer.the-variants.{Refused}
 use Rattle.monitor_requests.specs.Answers.{given}
 use Rattle.monitor_requests.specs.Tables.{Tables, harts, hardwareHarts, hardwareHart, sound}
 use Rattle.monitor_requests.specs.Requests.{Outcome, judged, refusedOn, tests, effect, performed}
+use Rattle.monitor_requests.proofs.AnswerLaws.{isRefused, errorIn}
 use Rattle.monitor_requests.proofs.JudgedLaws.{Passed, by-errors, by-tests, judged-map, judged-passed, notTwelve, isSetup, by-setup, later, unsound-refused}
 use Rattle.monitor_requests.proofs.SoundLaws.{held-names}
 use Rattle.monitor_requests.proofs.BroadcastLaws.{send-known, send-sound, refused-number}
@@ -196,30 +197,6 @@ flow-sound (Resume on) t effects s =
     (λ p. resumed-sound t (on .0) (process-held on t effects (resume-tests on t effects p)) (heldCommands t (on .0)))
 
 -- ---- refusals
-
--- the error of a refusal
-abbrev errorIn : Answer → Error
-errorIn (Refused e) = e
-errorIn Done = BadLine
-errorIn (Mask mask) = BadLine
-errorIn (State state) = BadLine
-errorIn (Flag flag) = BadLine
-errorIn (Count count) = BadLine
-errorIn Run = BadLine
-errorIn PoweredOff = BadLine
-errorIn (Operation kind x y) = BadLine
-
--- the answer is a refusal
-abbrev pub isRefused : Answer → Bool
-isRefused (Refused e) = true
-isRefused Done = false
-isRefused (Mask mask) = false
-isRefused (State state) = false
-isRefused (Flag flag) = false
-isRefused (Count count) = false
-isRefused Run = false
-isRefused PoweredOff = false
-isRefused (Operation kind x y) = false
 
 -- a hart that goes on is not refused
 goes-answers : (hardware : List ℕ) (k : ℕ) → isRefused (goesOn hardware k .answer) ≡ false

@@ -32,10 +32,11 @@ use Rattle.monitor_requests.specs.declared.Answer.the-variants.{Refused, Done, 
 use Rattle.monitor_requests.specs.Tables.{Tables, harts, hardwareHart, queue}
 use Rattle.monitor_requests.specs.Answers.{given}
 use Rattle.monitor_requests.specs.Requests.{withHardware, receives}
+use Rattle.monitor_requests.proofs.AnswerLaws.{isRefused, isMask, isCount, countIn}
 use Rattle.monitor_requests.proofs.JudgedLaws.{Passed, by-errors, judged-map}
 use Rattle.monitor_requests.proofs.SoundLaws.{sound-sized}
 use Rattle.monitor_requests.proofs.MoveLaws.{hardware-fits, six-registers}
-use Rattle.monitor_requests.proofs.BroadcastLaws.{masked, refuser, Masked, RefusedAt, send-mask, send-queues, send-eight}
+use Rattle.monitor_requests.proofs.BroadcastLaws.{refuser, Masked, RefusedAt, send-mask, send-queues, send-eight}
 use Rattle.flow_requests.specs.declared.FlowRequest.the-variants.{Broadcast, Process, Resume}
 use Rattle.flow_requests.specs.FlowRequests.{
   FlowOutcome,
@@ -53,7 +54,7 @@ use Rattle.flow_requests.specs.FlowRequests.{
   flowPerformed,
 }
 use Rattle.flow_requests.proofs.DoingLaws.{OwnStands, own-stands, by-going, did-hart, processed-empty}
-use Rattle.flow_requests.proofs.FlowLaws.{by-flow, by-broadcast, Held, isRefused, broadcast-held, process-held, resume-tests, processed-sound}
+use Rattle.flow_requests.proofs.FlowLaws.{by-flow, by-broadcast, Held, broadcast-held, process-held, resume-tests, processed-sound}
 
 -- the record of a held hart that did commands: PoweredOff where one of them shuts down, and else as it was
 abbrev pub afterDoing : List ConfidentialHartRemoteCommand → ConfidentialHart → ConfidentialHart
@@ -87,32 +88,9 @@ pub record Processed (k : ℕ) (t : Tables) (o : FlowOutcome) (n : ℕ) : Type 0
   pub every-done : AllDone k t (o .did) (o .effects) (o .after .queues)
   pub hart-after : hardwareHart (o .after) k ≡ afterDoing (heldCommands t k) (hardwareHart t k)
 
-abbrev countIn : Answer → ℕ
-countIn (Refused e) = 0
-countIn Done = 0
-countIn (Mask mask) = 0
-countIn (State state) = 0
-countIn (Flag flag) = 0
-countIn (Count count) = count
-countIn Run = 0
-countIn PoweredOff = 0
-countIn (Operation kind x y) = 0
-
 -- the error is not 8
 abbrev notEight : Error → Bool
 notEight e = not (eqb (numberOf e) reachedMaxNumberOfRemoteCommands)
-
--- the answer is a count
-abbrev pub isCount : Answer → Bool
-isCount (Refused e) = false
-isCount Done = false
-isCount (Mask mask) = false
-isCount (State state) = false
-isCount (Flag flag) = false
-isCount (Count count) = true
-isCount Run = false
-isCount PoweredOff = false
-isCount (Operation kind x y) = false
 
 -- a count that process gives
 pub process-count : (on : HardwareHartId) (t : Tables) (effects : List ℕ) (n : ℕ) → flowPerformed (Process on) t effects .answer ≡ Count n
@@ -164,7 +142,7 @@ module _ (on : HardwareHartId) (c : ConfidentialHartRemoteCommand) (t : Tables) 
   broadcast-mask mask =
       by-broadcast on c t effects
       (λ (o : FlowOutcome). o .answer ≡ Mask mask → Masked h c t mask × OwnDone c (on .0) t effects o)
-      (λ _ q. absurd (false≢true (ap masked q)))
+      (λ _ q. absurd (false≢true (ap isMask q)))
       (λ o w p q.
       let m = send-mask h c own mask (sym (w .answer-own) ∙ q) in (
         record {
@@ -183,7 +161,7 @@ module _ (on : HardwareHartId) (c : ConfidentialHartRemoteCommand) (t : Tables) 
   broadcast-queues mask e j l =
       by-broadcast on c t effects
       (λ (o : FlowOutcome). o .answer ≡ Mask mask → queue (o .after) j ≡ pick (receives (t .home) h c j) (offered (queue t j) c .queue) (queue t j))
-      (λ _ q. absurd (false≢true (ap masked q)))
+      (λ _ q. absurd (false≢true (ap isMask q)))
       (λ o w p q. rw (w .after-own) (send-queues h c own mask (sym (w .answer-own) ∙ q) j l))
       e
 

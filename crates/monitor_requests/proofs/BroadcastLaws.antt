@@ -29,10 +29,11 @@ use Rattle.hart_lifecycle_state.specs.Lifecycle.{started}
 use Rattle.hart_rows.specs.Rows.{hartAt}
 use Rattle.monitor_requests.specs.declared.Request.the-variants.{Send}
 use Rattle.monitor_requests.specs.declared.Answer.{Answer}
-use Rattle.monitor_requests.specs.declared.Answer.the-variants.{Refused, Done, Mask, State, Flag, Count, Run, PoweredOff, Operation}
+use Rattle.monitor_requests.specs.declared.Answer.the-variants.{Refused, Mask}
 use Rattle.monitor_requests.specs.Answers.{given}
 use Rattle.monitor_requests.specs.Tables.{Tables, harts, homeHart, queue, maxHardwareHarts, sound}
 use Rattle.monitor_requests.specs.Requests.{Outcome, outcome, tests, withQueues, receives, interrupting, Delivery, delivery, deliver, broadcast, effect, performed}
+use Rattle.monitor_requests.proofs.AnswerLaws.{isMask, maskIn}
 use Rattle.monitor_requests.proofs.JudgedLaws.{unsound-refused}
 use Rattle.monitor_requests.proofs.SoundLaws.{sound-facts, queues-sound, home-formed, away-names}
 
@@ -396,38 +397,15 @@ module _ (home : List ℕ) (sender : ℕ) (c : ConfidentialHartRemoteCommand) wh
 
 -- ---- a broadcast over sound tables
 
-abbrev maskIn : Answer → ℕ
-maskIn (Refused e) = 0
-maskIn Done = 0
-maskIn (Mask mask) = mask
-maskIn (State state) = 0
-maskIn (Flag flag) = 0
-maskIn (Count count) = 0
-maskIn Run = 0
-maskIn PoweredOff = 0
-maskIn (Operation kind x y) = 0
-
--- the answer is a mask
-abbrev pub masked : Answer → Bool
-masked (Refused e) = false
-masked Done = false
-masked (Mask mask) = true
-masked (State state) = false
-masked (Flag flag) = false
-masked (Count count) = false
-masked Run = false
-masked PoweredOff = false
-masked (Operation kind x y) = false
-
 told-mask : (b : Bool) (e : Error) (m mask : ℕ) → pick b (Refused e) (Mask m) ≡ Mask mask → (b ≡ false) × (m ≡ mask)
 unfolding pick
-told-mask true e m mask p = absurd (false≢true (ap masked p))
+told-mask true e m mask p = absurd (false≢true (ap isMask p))
 told-mask false e m mask p = (refl, ap maskIn p)
 
 told-refused : (b : Bool) (e f : Error) (m : ℕ) → pick b (Refused e) (Mask m) ≡ Refused f → (b ≡ true) × (Refused e ≡ Refused f)
 unfolding pick
 told-refused true e f m p = (refl, p)
-told-refused false e f m p = absurd (false≢true (sym (ap masked p)))
+told-refused false e f m p = absurd (false≢true (sym (ap isMask p)))
 
 -- what 8 means, and how it leaves the queues: hart `hart` receives and has 64 already; each that receives below it had fewer and has the
 -- command offered; the others below it, and all from it on, are as they were
@@ -629,7 +607,7 @@ module _ (sender : ℕ) (c : ConfidentialHartRemoteCommand) (t : Tables) where
 
   module _ (mask : ℕ) (p : performed (Send sender c) t .answer ≡ Mask mask) where
     no-mask : (e : Error) → Refused e ≢ Mask mask
-    no-mask e q = false≢true (ap masked q)
+    no-mask e q = false≢true (ap isMask q)
 
     s : sound t ≡ true
     s = went-sound (Mask mask) p (no-mask TablesNotSound) (no-mask UnknownKind)

@@ -1,5 +1,6 @@
 -- The laws of the definitions.
 pub mod JudgedLaws
+pub mod AnswerLaws
 pub mod SoundLaws
 pub mod ChangeLaws
 pub mod MoveLaws
