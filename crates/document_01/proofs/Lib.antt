@@ -1,0 +1,3 @@
+-- What is proved of document 01's cases.
+pub mod Table
+mod SureLaws

@@ -1,0 +1,4 @@
+-- What belongs to no one function of `monitor_trace`.
+pub mod TraceLaws
+pub mod TurnLaws
+pub mod LineLaws

@@ -1,0 +1,2 @@
+-- What the contracts on a trace cite.
+pub mod Trace

@@ -1,0 +1,126 @@
+-- `perform_request::perform_plain` meets its contract: case by case, what the entry of the request gives. Assumes nothing.
+use Rattle.perform_request.proofs.LentLaws.{alone}
+use borrow.Author.Needs.{needs}
+use Rattle.perform_request.proofs.perform_plain.Statement.{statement}
+use Rattle.perform_request.proofs.perform_plain.Tie as tie
+
+perform-on-hardware-requires : tie.Need-perform-on-hardware-requires
+perform-on-hardware-requires c κs =
+    let rest = c .before .before .before .before .before in
+    alone (rest .before .before .before .before .before .before .args .request) (rest .match .keys9)
+
+returns : tie.Need-returns
+returns c =
+    let did = c .before .before .before .before .before .before .before .before .before .before in
+    rw (did .before .before .before .before .before .before .before .request .given .1) (did .new .ensures)
+
+returns-2 : tie.Need-returns-2
+returns-2 c =
+    let did = c .before .before .before .before in
+    rw (did .before .before .before .before .before .before .before .request2 .given .1) (did .steal-confidential-hart .ensures)
+
+returns-3 : tie.Need-returns-3
+returns-3 c =
+    let did = c .before .before .before .before in
+    rw (did .before .before .before .before .before .before .before .request3 .given .1) (did .return-confidential-hart .ensures)
+
+returns-4 : tie.Need-returns-4
+returns-4 c =
+    let did = c .before .before in
+    rw (did .before .before .before .before .before .before .before .request4 .given .1) (did .start-confidential-hart .ensures)
+
+returns-5 : tie.Need-returns-5
+returns-5 c =
+    let did = c .before .before in
+    rw (did .before .before .before .before .before .before .before .request5 .given .1) (did .broadcast-remote-command .ensures)
+
+returns-6 : tie.Need-returns-6
+returns-6 c =
+    let did = c .before .before in
+    rw (did .before .before .before .before .before .before .before .request6 .given .1) (did .allow-external-interrupt .ensures)
+
+returns-7 : tie.Need-returns-7
+returns-7 c =
+    let did = c .before .before .before .before in
+    rw (did .before .before .before .before .before .before .before .request7 .given .1) (did .add-mmio-region .ensures)
+
+returns-8 : tie.Need-returns-8
+returns-8 c =
+    let did = c .before .before .before .before in
+    rw (did .before .before .before .before .before .before .before .request8 .given .1) (did .remove-mmio-region .ensures)
+
+pub perform-plain-spec : {M : Type 1} → statement M
+perform-plain-spec =
+    tie.close
+    (tie.spec
+    (λ c. search needs)
+    (λ c κs. search needs)
+    (λ c. search needs)
+    (λ c κs. search needs)
+    (λ c. search needs)
+    (λ c κs. search needs)
+    (λ c. search needs)
+    (λ c κs. search needs)
+    (λ c. search needs)
+    (λ c κs. search needs)
+    (λ c. search needs)
+    (λ c κs. search needs)
+    (λ c. search needs)
+    (λ c κs. search needs)
+    (λ c. search needs)
+    (λ c κs. search needs)
+    perform-on-hardware-requires
+    (λ c. search needs)
+    (λ c. search needs)
+    (λ c. search needs)
+    (λ c. search needs)
+    (λ c. search needs)
+    returns
+    (λ c. search needs)
+    (λ c. search needs)
+    (λ c. search needs)
+    (λ c. search needs)
+    (λ c. search needs)
+    returns-2
+    (λ c. search needs)
+    (λ c. search needs)
+    (λ c. search needs)
+    (λ c. search needs)
+    (λ c. search needs)
+    returns-3
+    (λ c. search needs)
+    (λ c. search needs)
+    (λ c. search needs)
+    (λ c. search needs)
+    (λ c. search needs)
+    returns-4
+    (λ c. search needs)
+    (λ c. search needs)
+    (λ c. search needs)
+    (λ c. search needs)
+    (λ c. search needs)
+    returns-5
+    (λ c. search needs)
+    (λ c. search needs)
+    (λ c. search needs)
+    (λ c. search needs)
+    (λ c. search needs)
+    returns-6
+    (λ c. search needs)
+    (λ c. search needs)
+    (λ c. search needs)
+    (λ c. search needs)
+    (λ c. search needs)
+    returns-7
+    (λ c. search needs)
+    (λ c. search needs)
+    (λ c. search needs)
+    (λ c. search needs)
+    (λ c. search needs)
+    returns-8
+    (λ c. search needs)
+    (λ c. search needs)
+    (λ c. search needs)
+    (λ c. search needs)
+    (λ c. search needs)
+    (λ c. search needs))

@@ -1,0 +1,2 @@
+-- What the contracts of `perform_request` cite.
+pub mod Lent

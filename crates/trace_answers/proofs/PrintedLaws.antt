@@ -1,0 +1,170 @@
+-- What is printed: its words, and that it fits in the room for it. Assumes nothing.
+use Prim.Native.Nat.{ℕ, zero, suc, _+_, _*_, _≤_, _<_}
+use mathlib.Core.Path.{_≡_, refl, sym, ap, _∙_}
+use mathlib.Core.Bool.{Bool, true, false, _&&_}
+use mathlib.Core.List.{List, [], _∷_, _++_, append-nil}
+use native.Mathlib.Nat.{zero-mul, suc-mul}
+use native.Mathlib.Numerals.{add-one}
+use native.Mathlib.Omega.{arith}
+use lib.ListN.{length, drop, length-append, length-take}
+use lib.Dec.{leb}
+use mir.Val.{boolByte}
+use borrow.Author.Tests.{leb-true, le-leb}
+use Rattle.error.specs.declared.Error.{Error}
+use Rattle.error.specs.Error.{numberOf}
+use Rattle.table_rows.specs.Choice.{pick}
+use Rattle.table_rows.specs.Rows.{row, rowsOf}
+use Rattle.table_rows.proofs.PickLaws.{and-left, and-right, and-both}
+use Rattle.remote_commands.specs.Queue.{maxCommands}
+use Rattle.effects.specs.Effects.{effectWords}
+use Rattle.monitor_requests.specs.declared.Answer.{Answer}
+use Rattle.monitor_requests.specs.declared.Answer.the-variants.{Refused, Done, Mask, State, Flag, Count, Run, PoweredOff, Operation}
+use Rattle.flow_requests.specs.declared.FlowAnswer.{FlowAnswer}
+use Rattle.trace_text.specs.Text.{bytes, digits, decimal, word, field, numbers, line, lineEnd, Put, printing}
+use Rattle.trace_text.proofs.SpelledLaws.{digits-most, digits-some, numbers-most}
+use Rattle.trace_text.proofs.WriteLaws.{put-none, put-as, put-then, print-put, print-none}
+use Rattle.trace_answers.specs.Printed.{
+  answerLine,
+  didLine,
+  printed,
+  didBytes,
+  answerBytes,
+  mostPrinted,
+  printable,
+  printedOver,
+}
+
+-- ---- words
+
+pub word-did : word 40904 ≡ bytes "did"
+unfolding digits pick
+word-did = refl
+
+pub word-run : bytes "0\t" ++ word 182114 ≡ bytes "0\trun"
+unfolding digits pick
+word-run = refl
+
+pub word-off : bytes "0\t" ++ word 150606 ≡ bytes "0\toff"
+unfolding digits pick
+word-off = refl
+
+pub word-op : bytes "0\t" ++ word 1516 ≡ bytes "0\top"
+unfolding digits pick
+word-op = refl
+
+-- a truth as a number
+pub flag-word : (flag : Bool) → boolByte flag ≡ pick flag 1 0
+unfolding pick
+flag-word true = refl
+flag-word false = refl
+
+-- ---- room
+
+-- a line takes its text, and 21 bytes for each number at most
+line-most : (text ns : List ℕ) → length (line text ns) ≤ length text + 21 * length ns
+line-most text ns = omega (arith, length-append text (numbers ns), numbers-most ns)
+
+-- an answer's line with its end
+pub answer-most : (a : Answer) → length (answerLine a) + 1 ≤ answerBytes
+unfolding answerLine
+answer-most (Refused e) = omega (arith, digits-most 10 48 20 (numberOf e))
+answer-most Done = omega arith
+answer-most (Mask mask) = omega (arith, line-most (bytes "0") (mask ∷ []))
+answer-most (State state) = omega (arith, line-most (bytes "0") (state ∷ []))
+answer-most (Flag flag) = omega (arith, line-most (bytes "0") (pick flag 1 0 ∷ []))
+answer-most (Count count) = omega (arith, line-most (bytes "0") (count ∷ []))
+answer-most Run = omega arith
+answer-most PoweredOff = omega arith
+answer-most (Operation kind x y) = omega (arith, line-most (bytes "0\top") (kind ∷ x ∷ y ∷ []))
+
+-- the line of an effect: its numbers, and all of it
+pub record-most : (effects : List ℕ) (i : ℕ) → length (numbers (row effectWords effects i)) ≤ 147
+unfolding row
+record-most effects i =
+    let part = row effectWords effects i in
+    omega (arith, numbers-most part, length-take effectWords (drop (i * effectWords) effects))
+
+pub did-most : (effects : List ℕ) (i : ℕ) → length (didLine effects i) ≤ didBytes
+did-most effects i =
+    let text = line (bytes "did") (row effectWords effects i) in
+    omega (arith, record-most effects i, length-append (bytes "did") (numbers (row effectWords effects i)), length-append text (lineEnd ∷ []))
+
+-- rows of so many bytes at most
+rows-most : (f : ℕ → List ℕ) (w : ℕ) → ((i : ℕ) → length (f i) ≤ w) → (n : ℕ) → length (rowsOf f n) ≤ n * w
+unfolding rowsOf
+rows-most f w few zero = omega (arith, zero-mul w)
+rows-most f w few (suc n) = omega (arith, length-append (rowsOf f n) (f n), rows-most f w few n, few n, suc-mul n w)
+
+pub dids-most : (effects : List ℕ) (n : ℕ) → length (rowsOf (didLine effects) n) ≤ n * didBytes
+dids-most effects n = rows-most (didLine effects) didBytes (did-most effects) n
+
+-- ---- a loop that puts them: none yet, and one more
+
+pub dids-none : (effects out : List ℕ) → Put 0 (rowsOf (didLine effects) 0) out 0 out
+unfolding rowsOf
+dids-none effects out = put-none 0 out
+
+pub dids-next : (effects : List ℕ) (i : ℕ) {place next : ℕ} {out between after : List ℕ}
+    → Put 0 (rowsOf (didLine effects) i) out place between
+    → Put place (didLine effects i) between next after → Put 0 (rowsOf (didLine effects) (i + 1)) out next after
+unfolding rowsOf
+dids-next effects i p q = put-as (ap (rowsOf (didLine effects)) (sym (add-one i))) (put-then (omega arith) p q)
+
+-- ---- the whole
+
+-- what is printable: the effects room has the records, which are no more than a queue's, and there is room for whatever is printed
+pub record Printable (a : FlowAnswer) (effects out : List ℕ) : Type 0 where
+  pub few : a .did ≤ maxCommands
+  pub there : a .did * effectWords ≤ length effects
+  pub roomy : mostPrinted ≤ length out
+
+pub printable-is : (a : FlowAnswer) (effects out : List ℕ) → printable a effects out ≡ true → Printable a effects out
+unfolding printable
+printable-is a effects out e =
+    let first = leb (a .did) maxCommands in
+    let second = leb (a .did * effectWords) (length effects) in
+    let both = and-left (first && second) (leb mostPrinted (length out)) e in
+    record {
+      few = leb-true (a .did) maxCommands (and-left first second both);
+      there = leb-true (a .did * effectWords) (length effects) (and-right first second both);
+      roomy = leb-true mostPrinted (length out) (and-right (first && second) _ e);
+    }
+
+pub is-printable : (a : FlowAnswer) (effects out : List ℕ) → Printable a effects out → printable a effects out ≡ true
+unfolding printable
+is-printable a effects out p = and-both (and-both (le-leb _ _ (p .few)) (le-leb _ _ (p .there))) (le-leb _ _ (p .roomy))
+
+module _ (a : FlowAnswer) (effects out : List ℕ) where
+  -- what is put at the front of the buffer is printed over it, and else nothing
+  pub printed-put : {n : ℕ} {after : List ℕ} → printable a effects out ≡ true → Put 0 (printed a effects) out n after
+      → printing n after ≡ printedOver a effects out
+  unfolding printedOver
+  printed-put e p = print-put (printed a effects) out e p
+
+  pub nothing-put : printable a effects out ≡ false → printing 0 out ≡ printedOver a effects out
+  unfolding printedOver
+  nothing-put e = print-none (printed a effects) out e
+
+  -- at least a byte is printed, and what is printed fits
+  pub printed-some : 0 < length (printed a effects)
+  unfolding printed
+  printed-some =
+      let dids = rowsOf (didLine effects) (a .did) in
+      omega (arith, length-append dids (answerLine (a .answer) ++ (lineEnd ∷ [])), length-append (answerLine (a .answer)) (lineEnd ∷ []))
+
+  pub printed-most : a .did ≤ maxCommands → length (printed a effects) ≤ mostPrinted
+  unfolding printed
+  printed-most few =
+      let dids = rowsOf (didLine effects) (a .did) in
+      omega (
+        arith,
+        dids-most effects (a .did),
+        answer-most (a .answer),
+        length-append dids (answerLine (a .answer) ++ (lineEnd ∷ [])),
+        length-append (answerLine (a .answer)) (lineEnd ∷ []),
+      )
+
+  -- so a byte or more is printed over the buffer, and no more than the room that is asked for
+  pub print-some : Printable a effects out → (0 < printedOver a effects out .length) × (printedOver a effects out .length ≤ mostPrinted)
+  unfolding printedOver pick
+  print-some p = rw (is-printable a effects out p) (printed-some, printed-most (p .few))

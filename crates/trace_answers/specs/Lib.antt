@@ -1,0 +1,2 @@
+-- What the contracts on printing cite.
+pub mod Printed

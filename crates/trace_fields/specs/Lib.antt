@@ -1,0 +1,2 @@
+-- What the contracts on reading a line cite.
+pub mod Fields

@@ -1,0 +1,171 @@
+-- `trace_rendering::put_plain` meets its contract: case by case. Assumes nothing.
+use mathlib.Core.Path.{sym, ap}
+use Rattle.flow_requests.specs.declared.FlowRequest.the-variants.{Plain}
+use Rattle.trace_text.proofs.WriteLaws.{put-as}
+use Rattle.trace_requests.specs.Lines.{spelling, lineOf}
+use Rattle.trace_rendering.proofs.RenderedLaws.{in-case}
+use borrow.Author.Needs.{needs}
+use Rattle.trace_rendering.proofs.put_plain.Statement.{statement}
+use Rattle.trace_rendering.proofs.put_plain.Tie as tie
+
+returns : tie.Need-returns
+returns c =
+    put-as (sym (ap lineOf (ap Plain (c .before .before .before .before .before .request .given .1)))) (c .before .before .put-setup .ensures)
+
+returns-2 : tie.Need-returns-2
+unfolding spelling
+returns-2 c =
+    in-case (ap Plain (c .before .before .before .before .before .before .request2 .given .1)) (c .before .before .put-line .ensures)
+
+returns-3 : tie.Need-returns-3
+unfolding spelling
+returns-3 c =
+    in-case (ap Plain (c .before .before .before .before .before .before .request3 .given .1)) (c .before .before .put-line2 .ensures)
+
+returns-4 : tie.Need-returns-4
+unfolding spelling
+returns-4 c =
+    in-case (ap Plain (c .before .before .before .before .before .before .request4 .given .1)) (c .before .before .put-line3 .ensures)
+
+returns-5 : tie.Need-returns-5
+unfolding spelling
+returns-5 c =
+    in-case (ap Plain (c .before .before .before .before .before .before .request5 .given .1)) (c .before .before .put-line4 .ensures)
+
+returns-6 : tie.Need-returns-6
+unfolding spelling
+returns-6 c =
+    in-case (ap Plain (c .before .before .before .before .before .before .request6 .given .1)) (c .before .before .put-line5 .ensures)
+
+returns-7 : tie.Need-returns-7
+unfolding spelling
+returns-7 c =
+    in-case (ap Plain (c .before .before .before .before .before .before .request7 .given .1)) (c .before .before .put-line6 .ensures)
+
+returns-8 : tie.Need-returns-8
+unfolding spelling
+returns-8 c =
+    in-case (ap Plain (c .before .before .before .before .before .before .request8 .given .1)) (c .before .before .put-line7 .ensures)
+
+returns-9 : tie.Need-returns-9
+unfolding spelling
+returns-9 c =
+    in-case (ap Plain (c .before .before .before .before .before .before .request9 .given .1)) (c .before .before .put-line8 .ensures)
+
+returns-10 : tie.Need-returns-10
+unfolding spelling
+returns-10 c =
+    in-case (ap Plain (c .before .before .before .before .before .before .request10 .given .1)) (c .before .before .put-line9 .ensures)
+
+returns-11 : tie.Need-returns-11
+unfolding spelling
+returns-11 c =
+    in-case (ap Plain (c .before .before .before .before .before .enum-told .given .1)) (c .before .before .put-line10 .ensures)
+
+returns-12 : tie.Need-returns-12
+unfolding spelling
+returns-12 c =
+    in-case (ap Plain (c .before .before .before .before .before .request11 .given .1)) (c .before .before .put-command .ensures)
+
+returns-13 : tie.Need-returns-13
+unfolding spelling
+returns-13 c =
+    in-case (ap Plain (c .before .before .before .before .before .before .request12 .given .1)) (c .before .before .put-line11 .ensures)
+
+returns-14 : tie.Need-returns-14
+unfolding spelling
+returns-14 c =
+    in-case (ap Plain (c .before .before .before .before .before .before .request13 .given .1)) (c .before .before .put-line12 .ensures)
+
+returns-15 : tie.Need-returns-15
+unfolding spelling
+returns-15 c =
+    in-case (ap Plain (c .before .before .before .before .before .before .request14 .given .1)) (c .before .before .put-line13 .ensures)
+
+returns-16 : tie.Need-returns-16
+unfolding spelling
+returns-16 c =
+    in-case (ap Plain (c .before .before .before .before .before .before .request15 .given .1)) (c .before .before .put-line14 .ensures)
+
+pub put-plain-spec : {M : Type 1} → statement M
+put-plain-spec =
+    tie.close
+    (tie.spec
+    (λ c. search needs)
+    (λ c κs. search needs)
+    (λ c. search needs)
+    (λ c. search needs)
+    (λ c κs. search needs)
+    (λ c. search needs)
+    (λ c. search needs)
+    (λ c κs. search needs)
+    (λ c. search needs)
+    (λ c. search needs)
+    (λ c κs. search needs)
+    (λ c. search needs)
+    (λ c. search needs)
+    (λ c κs. search needs)
+    (λ c. search needs)
+    (λ c. search needs)
+    (λ c κs. search needs)
+    (λ c. search needs)
+    (λ c. search needs)
+    (λ c κs. search needs)
+    (λ c. search needs)
+    (λ c. search needs)
+    (λ c κs. search needs)
+    (λ c. search needs)
+    (λ c. search needs)
+    (λ c κs. search needs)
+    (λ c. search needs)
+    (λ c. search needs)
+    (λ c κs. search needs)
+    (λ c. search needs)
+    (λ c. search needs)
+    (λ c κs. search needs)
+    (λ c. search needs)
+    (λ c κs. search needs)
+    (λ c. search needs)
+    (λ c. search needs)
+    (λ c κs. search needs)
+    (λ c. search needs)
+    (λ c. search needs)
+    (λ c κs. search needs)
+    (λ c. search needs)
+    (λ c. search needs)
+    (λ c κs. search needs)
+    (λ c. search needs)
+    (λ c. search needs)
+    (λ c κs. search needs)
+    (λ c. search needs)
+    returns
+    (λ c. search needs)
+    returns-2
+    (λ c. search needs)
+    returns-3
+    (λ c. search needs)
+    returns-4
+    (λ c. search needs)
+    returns-5
+    (λ c. search needs)
+    returns-6
+    (λ c. search needs)
+    returns-7
+    (λ c. search needs)
+    returns-8
+    (λ c. search needs)
+    returns-9
+    (λ c. search needs)
+    returns-10
+    (λ c. search needs)
+    returns-11
+    (λ c. search needs)
+    returns-12
+    (λ c. search needs)
+    returns-13
+    (λ c. search needs)
+    returns-14
+    (λ c. search needs)
+    returns-15
+    (λ c. search needs)
+    returns-16)

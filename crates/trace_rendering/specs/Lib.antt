@@ -1,0 +1,2 @@
+-- What the contracts on rendering cite.
+pub mod Rendered

@@ -1,0 +1,3 @@
+-- What the contracts on the lines of requests cite.
+pub mod Lines
+pub mod FieldRequests

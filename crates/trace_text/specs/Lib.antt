@@ -1,0 +1,2 @@
+-- What the contracts on text cite.
+pub mod Text
