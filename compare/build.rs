@@ -4,7 +4,7 @@ use std::path::Path;
 fn main() {
     let folder = Path::new(env!("CARGO_MANIFEST_DIR")).join("../target/staticlib");
     println!("cargo:rustc-link-search=native={}", folder.display());
-    for name in ["leaf_exports", "monitor_exports", "flow_exports"] {
+    for name in ["leaf_exports", "monitor_exports", "flow_exports", "trace_exports"] {
         let archive = folder.join(format!("lib{name}.a"));
         assert!(archive.exists(), "there is no archive to link: run `rt staticlib {name}` at the root of the repository first");
         println!("cargo:rerun-if-changed={}", archive.display());

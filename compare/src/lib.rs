@@ -4,6 +4,7 @@ use oracle::driver::Command;
 
 pub mod document_01;
 pub mod flow;
+pub mod lines;
 pub mod original;
 pub mod pair;
 pub mod tables;

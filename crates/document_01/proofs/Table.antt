@@ -1,5 +1,5 @@
 -- Document 01's cases hold of the definitions: each prints and leaves what the table says. Assumes nothing.
-use mathlib.Core.Path.{_≡_, refl, _∙_}
+use mathlib.Core.Path.{_≡_, refl}
 use mathlib.Core.Bool.{true}
 use mathlib.Core.List.{_∷_, map}
 use Rattle.table_rows.specs.Choice.{pick, every}

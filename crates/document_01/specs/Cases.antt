@@ -16,7 +16,7 @@ use Rattle.confidential_hart.specs.declared.ConfidentialHartId.{ConfidentialHar
 use Rattle.confidential_hart.specs.declared.HardwareHartId.{HardwareHartId}
 use Rattle.hart_rows.specs.Rows.{hartWords}
 use Rattle.monitor_requests.specs.declared.Setup as declared
-use Rattle.monitor_requests.specs.declared.Request.the-variants.{Setup, Steal, Return, Start, Stop, Send, Add, Remove, Defined}
+use Rattle.monitor_requests.specs.declared.Request.the-variants.{Setup, Steal, Return, Start, Stop, Send, Add, Remove}
 use Rattle.monitor_requests.specs.Tables.{Tables, tables, headWords, homeHart, queue, regionsOf}
 use Rattle.flow_requests.specs.declared.FlowRequest.{FlowRequest}
 use Rattle.flow_requests.specs.declared.FlowRequest.the-variants.{Plain, Broadcast, Resume}
@@ -84,46 +84,56 @@ seen c = record { printed = play (setUp (c .setup)) (c .requests) .text; shown =
 
 -- ---- requests, written as in a trace
 
+-- what setup takes
 abbrev pub setup : ℕ → ℕ → ℕ → ℕ → ℕ → ℕ → ℕ → declared.Setup
 setup n m boot a1 mepc vsatp vsstatus =
     record { harts = n; hardware = m; boot = boot; a1 = a1; mepc = mepc; vsatp = vsatp; vsstatus = vsstatus }
 
+-- hart h
 abbrev pub hart : ℕ → ConfidentialHartId
 hart h = record { 0 = h }
 
+-- hardware hart k
 abbrev pub on : ℕ → HardwareHartId
 on k = record { 0 = k }
 
+-- hart h moves to hardware hart k
 abbrev pub steal : ℕ → ℕ → FlowRequest
 steal h k = Plain (Steal (hart h) (on k))
 
+-- the hart on hardware hart k goes home
 abbrev pub return : ℕ → FlowRequest
 return k = Plain (Return (on k))
 
+-- hart h starts
 abbrev pub start : ℕ → ℕ → ℕ → FlowRequest
 start h address opaque = Plain (Start (hart h) address opaque)
 
+-- the hart on hardware hart k stops
 abbrev pub stop : ℕ → FlowRequest
 stop k = Plain (Stop (on k))
 
+-- it does what waits for it, and goes on
 abbrev pub resume : ℕ → FlowRequest
 resume k = Resume (on k)
 
+-- a region is added
 abbrev pub add : ℕ → ℕ → FlowRequest
 add base size = Plain (Add base size)
 
+-- the regions that overlap one are removed
 abbrev pub remove : ℕ → ℕ → FlowRequest
 remove base size = Plain (Remove base size)
 
-abbrev pub defined : ℕ → ℕ → FlowRequest
-defined base size = Plain (Defined base size)
-
+-- a command, in the order of its numbers
 abbrev pub command : ℕ → ℕ → ℕ → ℕ → ℕ → ℕ → ConfidentialHartRemoteCommand
 command kind mask base from size tag = record { kind = kind; mask = mask; base = base; start = from; size = size; tag = tag }
 
+-- the hart on hardware hart k sends a command
 abbrev pub broadcast : ℕ → ConfidentialHartRemoteCommand → FlowRequest
 broadcast k c = Broadcast (on k) c
 
+-- a sender's number sends a command
 abbrev pub send : ℕ → ConfidentialHartRemoteCommand → FlowRequest
 send sender c = Plain (Send sender c)
 
@@ -177,10 +187,11 @@ times n text = rowsOf (λ i. text) n
 abbrev pub last : ℕ
 last = 18446744073709551615
 
--- the setup of P1, and the requests after it
+-- the setup of P1
 abbrev pub p1-setup : declared.Setup
 p1-setup = setup 2 2 0 4096 8192 0 0
 
+-- the requests after it
 abbrev pub p1-requests : List FlowRequest
 p1-requests =
     steal 0 0

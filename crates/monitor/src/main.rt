@@ -74,9 +74,10 @@ fn longer(waiting: usize, more: usize, output: &[u8]) -> usize
     waiting + more
 }
 
-// Answers the line that was read.
+// Answers the line that was read, if it ends here.
 fn answer(
     trace: Trace,
+    ends: bool,
     fields: &mut [u64],
     head: &mut [u64],
     home: &mut [u64],
@@ -89,6 +90,9 @@ fn answer(
     requires { ⌜ trace .waiting ≤ length (now output) ⌝ }
     ensures { λ r. ⌜ r .waiting ≤ length (now (output .entry)) ⌝ }
 {
+    if !ends {
+        return trace;
+    }
     let roomy = make_room(trace, output);
     let line = roomy.line;
     let at = roomy.waiting;
@@ -114,63 +118,12 @@ fn answer(
     }
 }
 
-// The place of the first line end from `from` on, or `end` where there is none before it.
-fn find_line_end(input: &[u8], from: usize, end: usize) -> usize
-    requires { ⌜ (from ≤ end) × (end ≤ length (now input)) ⌝ }
-    ensures { λ r. ⌜ (from ≤ r) × (r ≤ end) ⌝ }
-{
-    let mut i = from;
-    while i < end {
-        if input[i] == LINE_END {
-            return i;
-        }
-        i += 1;
-    }
-    end
-}
-
 // The place after a line that starts at `from` and stops at `stop`: past its line end, or `end` where it has none.
 fn next_line(from: usize, stop: usize, end: usize) -> usize
     requires { ⌜ (from < end) × (from ≤ stop) × (stop ≤ end) ⌝ }
     ensures { λ r. ⌜ (from < r) × (r ≤ end) ⌝ }
 {
     if stop < end { stop + 1 } else { end }
-}
-
-// Reads a part of a line, and answers the line if it ends there.
-fn read_part(
-    trace: Trace,
-    text: &[u8],
-    ends: bool,
-    fields: &mut [u64],
-    head: &mut [u64],
-    home: &mut [u64],
-    hardware: &mut [u64],
-    queues: &mut [u64],
-    regions: &mut [u64],
-    effects: &mut [u64],
-    output: &mut [u8],
-) -> Trace
-    requires { ⌜ trace .waiting ≤ length (now output) ⌝ }
-    ensures { λ r. ⌜ r .waiting ≤ length (now (output .entry)) ⌝ }
-{
-    let line = trace_fields::read(trace.line, text, fields);
-    let mut so_far = trace;
-    so_far.line = line;
-    if ends {
-        return answer(
-            so_far,
-            fields,
-            head,
-            home,
-            hardware,
-            queues,
-            regions,
-            effects,
-            output,
-        );
-    }
-    so_far
 }
 
 // Answers the lines that end in the first `end` bytes of the input, and reads the start of the next.
@@ -193,11 +146,12 @@ fn block(
     let mut so_far = trace;
     let mut from = 0;
     while from < end {
-        let stop = find_line_end(input, from, end);
+        let stop = bytes::scan::find(input, from, end, LINE_END);
         let ends = stop < end;
-        so_far = read_part(
+        let line = trace_fields::read(so_far.line, &input[from..stop], fields);
+        so_far.line = line;
+        so_far = answer(
             so_far,
-            &input[from..stop],
             ends,
             fields,
             head,
@@ -213,169 +167,37 @@ fn block(
     flush(so_far, output)
 }
 
-// A trace after one of so many blocks.
-fn counted(trace: Trace, blocks: u64) -> Trace
+// Ends a last line that has no line end: where a read brought nothing, a line that was begun is given one. Gives how many bytes are to be read.
+fn end_line(line: Line, count: usize, input: &mut [u8]) -> usize
+    requires { ⌜ count ≤ length (now input) ⌝ }
+    ensures { λ r. ⌜ r ≤ length (now (input .entry)) ⌝ }
+{
+    let nothing = trace_fields::is_empty(line);
+    if (0 < count) | nothing {
+        return count;
+    }
+    if input.len() == 0 {
+        return count;
+    }
+    input[0] = LINE_END;
+    1
+}
+
+// The trace with fewer blocks left to read: one fewer, or none once a write failed or a read brought nothing.
+fn counted(trace: Trace, blocks: u64, count: usize) -> Trace
     requires { ⌜ 0 < blocks ⌝ }
     ensures { λ r. ⌜ (r .blocks < blocks) × (r .waiting ≡ trace .waiting) ⌝ }
 {
     let mut next = trace;
     next.blocks = blocks - 1;
-    if trace.failed {
+    if trace.failed | (count == 0) {
         next.blocks = 0;
     }
     next
 }
 
-// Reads a block of the input, and answers the lines that end in it.
-fn read_block(
-    trace: Trace,
-    input: &mut [u8],
-    fields: &mut [u64],
-    head: &mut [u64],
-    home: &mut [u64],
-    hardware: &mut [u64],
-    queues: &mut [u64],
-    regions: &mut [u64],
-    effects: &mut [u64],
-    output: &mut [u8],
-) -> Trace
-    requires { ⌜ (0 < trace .blocks) × (trace .waiting ≤ length (now output)) ⌝ }
-    ensures { λ r. ⌜ (r .blocks < trace .blocks) × (r .waiting ≤ length (now (output .entry))) ⌝ }
-{
-    let blocks = trace.blocks;
-    let got = libc::read(STDIN_FILENO, input);
-    let count = io::count(got, input);
-    if count == 0 {
-        let mut last = trace;
-        last.blocks = 0;
-        return last;
-    }
-    let next = block(
-        trace,
-        input,
-        count,
-        fields,
-        head,
-        home,
-        hardware,
-        queues,
-        regions,
-        effects,
-        output,
-    );
-    counted(next, blocks)
-}
-
-// Reads the whole input, block by block.
-fn read_all(
-    trace: Trace,
-    input: &mut [u8],
-    fields: &mut [u64],
-    head: &mut [u64],
-    home: &mut [u64],
-    hardware: &mut [u64],
-    queues: &mut [u64],
-    regions: &mut [u64],
-    effects: &mut [u64],
-    output: &mut [u8],
-) -> Trace
-    requires { ⌜ trace .waiting ≤ length (now output) ⌝ }
-    ensures { λ r. ⌜ r .waiting ≤ length (now (output .entry)) ⌝ }
-{
-    let mut so_far = trace;
-    while 0 < so_far.blocks {
-        so_far = read_block(
-            so_far,
-            input,
-            fields,
-            head,
-            home,
-            hardware,
-            queues,
-            regions,
-            effects,
-            output,
-        );
-    }
-    so_far
-}
-
-// Answers a last line that has no line end.
-fn finish(
-    trace: Trace,
-    fields: &mut [u64],
-    head: &mut [u64],
-    home: &mut [u64],
-    hardware: &mut [u64],
-    queues: &mut [u64],
-    regions: &mut [u64],
-    effects: &mut [u64],
-    output: &mut [u8],
-)
-    requires { ⌜ trace .waiting ≤ length (now output) ⌝ }
-{
-    let nothing = trace_fields::is_empty(trace.line);
-    if nothing {
-        return;
-    }
-    let last = answer(
-        trace,
-        fields,
-        head,
-        home,
-        hardware,
-        queues,
-        regions,
-        effects,
-        output,
-    );
-    flush(last, output);
-}
-
-// The whole trace.
-fn run(
-    input: &mut [u8],
-    fields: &mut [u64],
-    head: &mut [u64],
-    home: &mut [u64],
-    hardware: &mut [u64],
-    queues: &mut [u64],
-    regions: &mut [u64],
-    effects: &mut [u64],
-    output: &mut [u8],
-) {
-    let trace = Trace {
-        line: Line::start(),
-        ready: false,
-        waiting: 0,
-        failed: false,
-        blocks: u64::MAX,
-    };
-    let last = read_all(
-        trace,
-        input,
-        fields,
-        head,
-        home,
-        hardware,
-        queues,
-        regions,
-        effects,
-        output,
-    );
-    finish(
-        last,
-        fields,
-        head,
-        home,
-        hardware,
-        queues,
-        regions,
-        effects,
-        output,
-    );
-}
-
+// Reads the whole input, block by block, and answers the lines that end in each. The end of the input ends a line too; after a read that fails
+// a line that was begun is left alone.
 fn main() {
     let mut input = io::large_buffer();
     let mut output = io::large_buffer();
@@ -386,15 +208,34 @@ fn main() {
     let mut queues = [0u64; QUEUES_WORDS];
     let mut regions = [0u64; TABLE_WORDS];
     let mut effects = [0u64; EFFECTS_WORDS];
-    run(
-        &mut input,
-        &mut fields,
-        &mut head,
-        &mut home,
-        &mut hardware,
-        &mut queues,
-        &mut regions,
-        &mut effects,
-        &mut output,
-    );
+    let mut trace = Trace {
+        line: Line::start(),
+        ready: false,
+        waiting: 0,
+        failed: false,
+        blocks: u64::MAX,
+    };
+    while 0 < trace.blocks {
+        let blocks = trace.blocks;
+        let got = libc::read(STDIN_FILENO, &mut input);
+        if got < 0 {
+            return;
+        }
+        let count = io::count(got, &input);
+        let end = end_line(trace.line, count, &mut input);
+        let next = block(
+            trace,
+            &input,
+            end,
+            &mut fields,
+            &mut head,
+            &mut home,
+            &mut hardware,
+            &mut queues,
+            &mut regions,
+            &mut effects,
+            &mut output,
+        );
+        trace = counted(next, blocks, count);
+    }
 }

@@ -13,7 +13,7 @@ use Rattle.error.specs.declared.Error.{Error}
 use Rattle.error.specs.declared.Error.the-variants.{BadLine as badLine}
 use Rattle.error.specs.Error.{done, numberOf, badLine as twenty}
 use Rattle.table_rows.specs.Lists.{allOf}
-use Rattle.table_rows.proofs.PickLaws.{no, by-pick}
+use Rattle.table_rows.proofs.PickLaws.{by-pick}
 use Rattle.monitor_requests.specs.declared.Setup as declared
 use Rattle.monitor_requests.specs.declared.Request.the-variants.{
   Setup,

@@ -1,22 +1,21 @@
 -- A line of a trace: what is performed is printed, and where there is room something is. Assumes nothing.
-use mathlib.Core.Path.{_≡_, refl, sym, ap, _∙_}
-use mathlib.Core.Bool.{Bool, true, false, _||_}
+use mathlib.Core.Path.{_≡_, ap}
+use mathlib.Core.Bool.{Bool, _||_}
 use mathlib.Core.List.{List}
 use Prim.Native.Nat.{ℕ, _+_, _-_, _≤_}
 use native.Mathlib.Omega.{arith}
 use lib.ListN.{length, take, drop, length-drop}
-use lib.Dec.{eqb, ltb}
-use borrow.Author.Tests.{le-ltb, ltb-false}
+use lib.Dec.{eqb}
+use borrow.Author.Tests.{le-ltb}
 use Rattle.error.specs.Error.{done}
-use Rattle.table_rows.specs.Choice.{pick}
 use Rattle.table_rows.proofs.PickLaws.{no, by-pick}
 use Rattle.table_rows.proofs.PartLaws.{rest-part}
 use Rattle.monitor_requests.specs.Answers.{given}
 use Rattle.monitor_requests.specs.Tables.{Tables}
 use Rattle.flow_requests.specs.declared.FlowAnswer.{FlowAnswer}
-use Rattle.flow_requests.specs.FlowRequests.{FlowOutcome, answered, answerIn}
+use Rattle.flow_requests.specs.FlowRequests.{answered, answerIn}
 use Rattle.trace_requests.specs.declared.Parsed.{Parsed}
-use Rattle.trace_answers.specs.Printed.{Printing, printing, printable, mostPrinted, printedOver}
+use Rattle.trace_answers.specs.Printed.{Printing, printing, mostPrinted, printedOver}
 use Rattle.trace_answers.proofs.PrintedLaws.{printable-is, printed-most}
 use Rattle.monitor_trace.specs.declared.Turn.{Turn}
 use Rattle.monitor_trace.specs.Trace.{lineOutcome, TurnOutcome, turn, turned}

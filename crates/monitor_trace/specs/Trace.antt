@@ -16,7 +16,7 @@ use Rattle.flow_requests.specs.FlowRequests.{FlowOutcome, answerIn, flowRefused
 use Rattle.trace_requests.specs.declared.Parsed.{Parsed}
 use Rattle.trace_requests.specs.declared.Parsed.the-variants.{Request, BadLine}
 use Rattle.trace_requests.specs.Lines.{spelling}
-use Rattle.trace_answers.specs.Printed.{Printing, printing, mostPrinted, printedOver}
+use Rattle.trace_answers.specs.Printed.{Printing, mostPrinted, printedOver}
 use Rattle.monitor_trace.specs.declared.Turn.{Turn}
 
 -- ---- what a line does

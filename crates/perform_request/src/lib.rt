@@ -174,6 +174,7 @@ fn perform_plain(
         _ => perform_on_hardware(request, head, home, hardware, queues, regions),
     }
 }
+
 // Performs any request. One that does no command has no effects.
 pub fn perform(
     request: FlowRequest,

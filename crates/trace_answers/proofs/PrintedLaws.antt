@@ -1,8 +1,8 @@
 -- What is printed: its words, and that it fits in the room for it. Assumes nothing.
 use Prim.Native.Nat.{ℕ, zero, suc, _+_, _*_, _≤_, _<_}
-use mathlib.Core.Path.{_≡_, refl, sym, ap, _∙_}
+use mathlib.Core.Path.{_≡_, refl, sym, ap}
 use mathlib.Core.Bool.{Bool, true, false, _&&_}
-use mathlib.Core.List.{List, [], _∷_, _++_, append-nil}
+use mathlib.Core.List.{List, [], _∷_, _++_}
 use native.Mathlib.Nat.{zero-mul, suc-mul}
 use native.Mathlib.Numerals.{add-one}
 use native.Mathlib.Omega.{arith}
@@ -10,7 +10,6 @@ use lib.ListN.{length, drop, length-append, length-take}
 use lib.Dec.{leb}
 use mir.Val.{boolByte}
 use borrow.Author.Tests.{leb-true, le-leb}
-use Rattle.error.specs.declared.Error.{Error}
 use Rattle.error.specs.Error.{numberOf}
 use Rattle.table_rows.specs.Choice.{pick}
 use Rattle.table_rows.specs.Rows.{row, rowsOf}
@@ -20,8 +19,8 @@ use Rattle.effects.specs.Effects.{effectWords}
 use Rattle.monitor_requests.specs.declared.Answer.{Answer}
 use Rattle.monitor_requests.specs.declared.Answer.the-variants.{Refused, Done, Mask, State, Flag, Count, Run, PoweredOff, Operation}
 use Rattle.flow_requests.specs.declared.FlowAnswer.{FlowAnswer}
-use Rattle.trace_text.specs.Text.{bytes, digits, decimal, word, field, numbers, line, lineEnd, Put, printing}
-use Rattle.trace_text.proofs.SpelledLaws.{digits-most, digits-some, numbers-most}
+use Rattle.trace_text.specs.Text.{bytes, digits, word, numbers, line, lineEnd, Put, printing}
+use Rattle.trace_text.proofs.SpelledLaws.{digits-most, numbers-most}
 use Rattle.trace_text.proofs.WriteLaws.{put-none, put-as, put-then, print-put, print-none}
 use Rattle.trace_answers.specs.Printed.{
   answerLine,

@@ -53,6 +53,6 @@ mostPrinted = maxCommands * didBytes + answerBytes
 unfoldable pub printable : FlowAnswer → List ℕ → List ℕ → Bool
 printable a effects out = leb (a .did) maxCommands && leb (a .did * effectWords) (length effects) && leb mostPrinted (length out)
 
--- it is printed over the front of the buffer; nothing is where the room is too short
+-- it is printed over the front of the buffer; nothing is where it is not printable
 unfoldable pub printedOver : FlowAnswer → List ℕ → List ℕ → Printing
 printedOver a effects out = printedIn (printable a effects out) (printed a effects) out

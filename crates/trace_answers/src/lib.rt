@@ -52,7 +52,7 @@ fn put_said(key: u64, at: usize, out: &mut [u8]) -> usize
     trace_text::put_word(key, word, out)
 }
 
-// Writes 0, that an operation is over, its kind and its two numbers.
+// Writes 0, `op`, the operation's kind and its two numbers.
 fn put_operation(kind: u64, x: u64, y: u64, at: usize, out: &mut [u8]) -> usize
     requires { ⌜ at + answerBytes ≤ length (now out) ⌝ }
     ensures { λ r. ⌜ Put at (line (bytes "0\top") (kind ∷ x ∷ y ∷ [])) (now (out .entry)) r (now (out .exit)) ⌝ }
@@ -117,7 +117,8 @@ fn is_printable(answer: FlowAnswer, effects: &[u64], out: &[u8]) -> bool
     (did * EFFECT_WORDS <= effects.len()) & (MOST_PRINTED <= out.len())
 }
 
-// Prints an answer over the front of `out`, and gives how many bytes that are: none where there is too little room.
+// Prints an answer over the front of `out`, and gives how many bytes that are: none where there is too little room, or the records are not there or
+// more than 64.
 pub fn print(answer: FlowAnswer, effects: &[u64], out: &mut [u8]) -> usize
     ensures { λ r. ⌜ printing r (now (out .exit)) ≡ printedOver answer (now (effects .entry)) (now (out .entry)) ⌝ }
 {

@@ -24,6 +24,22 @@ fn put_line(key: u64, numbers: &[u64], out: &mut [u8]) -> usize
     trace_text::put_numbers(numbers, place, out)
 }
 
+// Writes a word and one number.
+fn put_one(key: u64, a: u64, out: &mut [u8]) -> usize
+    requires { ⌜ (key < 100 ^ 9) × (mostRendered ≤ length (now out)) ⌝ }
+    ensures { λ r. ⌜ Put 0 (line (word key) (a ∷ [])) (now (out .entry)) r (now (out .exit)) ⌝ }
+{
+    put_line(key, &[a], out)
+}
+
+// Writes a word and two numbers.
+fn put_two(key: u64, a: u64, b: u64, out: &mut [u8]) -> usize
+    requires { ⌜ (key < 100 ^ 9) × (mostRendered ≤ length (now out)) ⌝ }
+    ensures { λ r. ⌜ Put 0 (line (word key) (a ∷ b ∷ [])) (now (out .entry)) r (now (out .exit)) ⌝ }
+{
+    put_line(key, &[a, b], out)
+}
+
 // Writes a word and the numbers of a command behind another.
 fn put_command(key: u64, first: u64, c: ConfidentialHartRemoteCommand, out: &mut [u8]) -> usize
     requires { ⌜ (key < 100 ^ 9) × (mostRendered ≤ length (now out)) ⌝ }
@@ -57,29 +73,29 @@ fn put_plain(request: Request, out: &mut [u8]) -> usize
 {
     match request {
         Request::Setup(s) => put_setup(s, out),
-        Request::Steal(hart, on) => put_line(trace_requests::STEAL, &[hart.0, on.0], out),
-        Request::Return(on) => put_line(trace_requests::RETURN, &[on.0], out),
+        Request::Steal(hart, on) => put_two(trace_requests::STEAL, hart.0, on.0, out),
+        Request::Return(on) => put_one(trace_requests::RETURN, on.0, out),
         Request::Start(hart, address, opaque) => put_line(
             trace_requests::START,
             &[hart.0, address, opaque],
             out,
         ),
-        Request::Suspend(on) => put_line(trace_requests::SUSPEND, &[on.0], out),
-        Request::Stop(on) => put_line(trace_requests::STOP, &[on.0], out),
+        Request::Suspend(on) => put_one(trace_requests::SUSPEND, on.0, out),
+        Request::Stop(on) => put_one(trace_requests::STOP, on.0, out),
         Request::Wake(on, address, opaque) => put_line(
             trace_requests::WAKE,
             &[on.0, address, opaque],
             out,
         ),
-        Request::Off(on) => put_line(trace_requests::OFF, &[on.0], out),
+        Request::Off(on) => put_one(trace_requests::OFF, on.0, out),
         Request::Await(on, kind, x, y) => put_line(trace_requests::AWAIT, &[on.0, kind, x, y], out),
-        Request::Status(hart) => put_line(trace_requests::STATUS, &[hart.0], out),
+        Request::Status(hart) => put_one(trace_requests::STATUS, hart.0, out),
         Request::Home => put_line(trace_requests::HOME, &[], out),
         Request::Send(sender, c) => put_command(trace_requests::SEND, sender, c, out),
-        Request::Allow(bits) => put_line(trace_requests::ALLOW, &[bits], out),
-        Request::Add(base, size) => put_line(trace_requests::ADD, &[base, size], out),
-        Request::Remove(base, size) => put_line(trace_requests::REMOVE, &[base, size], out),
-        Request::Defined(base, size) => put_line(trace_requests::DEFINED, &[base, size], out),
+        Request::Allow(bits) => put_one(trace_requests::ALLOW, bits, out),
+        Request::Add(base, size) => put_two(trace_requests::ADD, base, size, out),
+        Request::Remove(base, size) => put_two(trace_requests::REMOVE, base, size, out),
+        Request::Defined(base, size) => put_two(trace_requests::DEFINED, base, size, out),
     }
 }
 
@@ -91,8 +107,8 @@ fn put_request(request: FlowRequest, out: &mut [u8]) -> usize
     match request {
         FlowRequest::Plain(r) => put_plain(r, out),
         FlowRequest::Broadcast(on, c) => put_command(trace_requests::BROADCAST, on.0, c, out),
-        FlowRequest::Process(on) => put_line(trace_requests::PROCESS, &[on.0], out),
-        FlowRequest::Resume(on) => put_line(trace_requests::RESUME, &[on.0], out),
+        FlowRequest::Process(on) => put_one(trace_requests::PROCESS, on.0, out),
+        FlowRequest::Resume(on) => put_one(trace_requests::RESUME, on.0, out),
     }
 }
 

@@ -29,7 +29,7 @@ use Rattle.flow_requests.specs.declared.FlowRequest.{FlowRequest}
 use Rattle.flow_requests.specs.declared.FlowRequest.the-variants.{Plain, Broadcast, Process, Resume}
 use Rattle.trace_text.specs.Text.{bytes, digits, word, line}
 use Rattle.trace_fields.specs.declared.Line.{Line}
-use Rattle.trace_fields.specs.Fields.{start, more, Reading, reading, closed, fed, readOn, fieldsIn}
+use Rattle.trace_fields.specs.Fields.{start, more, Reading, reading, fed, readOn, fieldsIn}
 use Rattle.trace_fields.proofs.ReadLaws.{got}
 use Rattle.trace_fields.proofs.SoundLaws.{low64, sound}
 use Rattle.trace_fields.proofs.CompleteLaws.{complete}

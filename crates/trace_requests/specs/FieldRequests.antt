@@ -56,16 +56,19 @@ maxFields = 8
 
 -- ---- the same, as the code goes: by the number of fields, then by the word
 
--- numbers as what they name: a hart, a hardware hart, a command, and what setup takes
+-- numbers as what they name: a hart
 abbrev hart : ℕ → ConfidentialHartId
 hart h = record { 0 = h }
 
+-- a hardware hart
 abbrev on : ℕ → HardwareHartId
 on k = record { 0 = k }
 
+-- a command
 abbrev command : ℕ → ℕ → ℕ → ℕ → ℕ → ℕ → ConfidentialHartRemoteCommand
 command kind mask base start size tag = record { kind = kind; mask = mask; base = base; start = start; size = size; tag = tag }
 
+-- what setup takes
 abbrev numbers : ℕ → ℕ → ℕ → ℕ → ℕ → ℕ → ℕ → SetupNumbers
 numbers harts hardware boot a1 mepc vsatp vsstatus =
     record { harts = harts; hardware = hardware; boot = boot; a1 = a1; mepc = mepc; vsatp = vsatp; vsstatus = vsstatus }
@@ -75,10 +78,11 @@ abbrev pub first : ℕ → List FlowRequest → Parsed
 first w [] = BadLine
 first w (r ∷ rs) = pick (eqb w (key r)) (Request r) (first w rs)
 
--- the requests of no number, and of so many
+-- the requests of no number
 unfoldable pub ofNone : List FlowRequest
 ofNone = Plain Home ∷ []
 
+-- of one
 unfoldable pub ofOne : ℕ → List FlowRequest
 ofOne a =
     Plain (Return (on a))
@@ -91,15 +95,19 @@ ofOne a =
     ∷ Plain (Allow a)
     ∷ []
 
+-- of two
 unfoldable pub ofTwo : ℕ → ℕ → List FlowRequest
 ofTwo a b = Plain (Steal (hart a) (on b)) ∷ Plain (Add a b) ∷ Plain (Remove a b) ∷ Plain (Defined a b) ∷ []
 
+-- of three
 unfoldable pub ofThree : ℕ → ℕ → ℕ → List FlowRequest
 ofThree a b c = Plain (Start (hart a) b c) ∷ Plain (Wake (on a) b c) ∷ []
 
+-- of four
 unfoldable pub ofFour : ℕ → ℕ → ℕ → ℕ → List FlowRequest
 ofFour a b c d = Plain (Await (on a) b c d) ∷ []
 
+-- of seven
 unfoldable pub ofSeven : ℕ → ℕ → ℕ → ℕ → ℕ → ℕ → ℕ → List FlowRequest
 ofSeven a b c d e f g =
     Plain (Setup (numbers a b c d e f g)) ∷ Plain (Send a (command b c d e f g)) ∷ Broadcast (on a) (command b c d e f g) ∷ []

@@ -29,7 +29,7 @@ use Rattle.flow_requests.specs.declared.FlowRequest.{FlowRequest}
 use Rattle.flow_requests.specs.declared.FlowRequest.the-variants.{Plain, Broadcast, Process, Resume}
 use Rattle.trace_text.specs.Text.{bytes, line}
 use Rattle.trace_requests.specs.declared.Parsed.{Parsed}
-use Rattle.trace_requests.specs.declared.Parsed.the-variants.{Request, BadLine}
+use Rattle.trace_requests.specs.declared.Parsed.the-variants.{Request}
 
 -- a word and the numbers that follow it
 pub record Spelling : Type 0 where

@@ -1,6 +1,6 @@
 -- Text as bytes: words, plain decimals, and the lines that are made of them.
 use Prim.Native.Nat.{ℕ, zero, suc, _+_, _/_, _%_}
-use Prim.Native.Char.{Char, code}
+use Prim.Native.Char.{code}
 use Prim.Native.String.{String, [] as end, _∷_ as _then_}
 use mathlib.Core.Path.{_≡_}
 use mathlib.Core.Bool.{Bool}
@@ -37,7 +37,7 @@ spelled base nought n = digits 20 base nought n
 abbrev pub decimal : ℕ → List ℕ
 decimal n = spelled 10 48 n
 
--- a word as one number, two decimal digits for each letter: a is 01, z is 26
+-- the word of a number, two decimal digits for each letter: a is 01, z is 26
 abbrev pub word : ℕ → List ℕ
 word key = spelled 100 96 key
 

@@ -1,7 +1,8 @@
 -- `monitor::block` meets its contract: what waits to be written stays within the buffer. Assumes nothing.
 use Prim.Native.Nat.{_-_, _≤_}
-use mathlib.Core.Path.{_≡_, _∙_}
+use mathlib.Core.Path.{_≡_, _∙_, refl}
 use lib.ListN.{length}
+use native.Mathlib.Omega.{arith}
 use borrow.Author.Needs.{needs}
 use Rattle.monitor.proofs.block.Statement.{statement}
 use Rattle.monitor.proofs.block.Tie as tie
@@ -22,20 +23,32 @@ Inv-loop input end fields₀ head₀ home₀ hardware₀ queues₀ regions₀ ef
 abbrev μ-loop : tie.MeasureT-loop
 μ-loop input end fields₀ head₀ home₀ hardware₀ queues₀ regions₀ effects₀ output₀ so-far₀ from₀ fields head home hardware queues regions effects output so-far from = end - from
 
+loop-holds : tie.Need-loop-holds Inv-loop μ-loop
+loop-holds c = (omega arith, c .before .before .before .before .before .before .before .before .before .pre .1, refl, refl, refl, refl, refl, refl, refl, refl)
+
+next-line-requires : tie.Need-next-line-requires Inv-loop μ-loop
+next-line-requires c κs =
+    let found = c .before .before .before .before .before .before .before .before .before .before .before .before .before .before .before .before .before .before .before .before .before .before .before .before .before .before .before .before .before .before in
+    (found .before .loop-test .taken, omega (arith, found .find .ensures .0), found .find .ensures .1)
+
+loop-less : tie.Need-loop-less Inv-loop μ-loop
+loop-less c = omega arith
+
 loop-again : tie.Need-loop-again Inv-loop μ-loop
 loop-again c =
-    let v = c .before .before .before .before .before .before .before .before .before .before .before .before .before .before .before .before .before in
-    let t = v .before .before .before .before .before .before .before .before .before .before .before .before in (
-      search needs,
-      search needs,
-      v .read-part .kept .1 .1 .1 .0 ∙ t .loop .inv .2,
-      v .read-part .kept .1 .1 .1 .1 .0 ∙ t .loop .inv .3,
-      v .read-part .kept .1 .1 .1 .1 .1 .0 ∙ t .loop .inv .4,
-      v .read-part .kept .1 .1 .1 .1 .1 .1 .0 ∙ t .loop .inv .5,
-      v .read-part .kept .1 .1 .1 .1 .1 .1 .1 .0 ∙ t .loop .inv .6,
-      v .read-part .kept .1 .1 .1 .1 .1 .1 .1 .1 .0 ∙ t .loop .inv .7,
-      v .read-part .kept .1 .1 .1 .1 .1 .1 .1 .1 .1 .0 ∙ t .loop .inv .8,
-      v .read-part .kept .1 .1 .1 .1 .1 .1 .1 .1 .1 .1 .0 ∙ t .loop .inv .9,
+    let answered = c .before .before .before .before .before .before .before .before .before .before .before .before .before .before .before .before .before in
+    let read = answered .before .before .before .before .before .before .before .before .before .before .before in
+    let turn = read .before .before .before .before .before in (
+      c .next-line .ensures .1,
+      rw (answered .answer .kept .1 .1 .1 .1 .1 .1 .1 .1 .1 .0) (answered .answer .ensures),
+      answered .answer .kept .1 .1 .0 ∙ read .read .kept .1 .1 .0 ∙ turn .loop .inv .2,
+      answered .answer .kept .1 .1 .1 .0 ∙ turn .loop .inv .3,
+      answered .answer .kept .1 .1 .1 .1 .0 ∙ turn .loop .inv .4,
+      answered .answer .kept .1 .1 .1 .1 .1 .0 ∙ turn .loop .inv .5,
+      answered .answer .kept .1 .1 .1 .1 .1 .1 .0 ∙ turn .loop .inv .6,
+      answered .answer .kept .1 .1 .1 .1 .1 .1 .1 .0 ∙ turn .loop .inv .7,
+      answered .answer .kept .1 .1 .1 .1 .1 .1 .1 .1 .0 ∙ turn .loop .inv .8,
+      answered .answer .kept .1 .1 .1 .1 .1 .1 .1 .1 .1 .0 ∙ turn .loop .inv .9,
     )
 
 pub block-spec : {M : Type 1} → statement M
@@ -44,22 +57,23 @@ block-spec =
     (tie.spec
     Inv-loop
     μ-loop
-    (λ c. search needs)
-    (λ c κs. search needs)
-    (λ c. search needs)
-    (λ c. search needs)
-    (λ c. search needs)
-    (λ c κs. search needs)
-    (λ c κs. search needs)
-    (λ c. search needs)
+    loop-holds
+    (λ c κs. (c .before .loop .inv .0, c .before .before .before .before .before .before .before .before .before .before .before .pre .0))
+    (λ c. omega (arith, c .find .ensures .0))
+    (λ c. omega (arith, c .find .ensures .0))
+    (λ c. omega arith)
+    (λ c κs. tt)
+    (λ c κs. c .before .before .before .before .before .before .before .before .before .before .before .before .before .before .before .loop .inv .1)
+    next-line-requires
+    loop-less
     loop-again
-    (λ c κs. search needs)
-    (λ c. search needs)
-    (λ c. search needs)
-    (λ c. search needs)
-    (λ c. search needs)
-    (λ c. search needs)
-    (λ c. search needs)
-    (λ c. search needs)
-    (λ c. search needs)
+    (λ c κs. c .before .before .loop .inv .1)
+    (λ c. c .before .before .before .loop .inv .2)
+    (λ c. c .before .before .before .loop .inv .3)
+    (λ c. c .before .before .before .loop .inv .4)
+    (λ c. c .before .before .before .loop .inv .5)
+    (λ c. c .before .before .before .loop .inv .6)
+    (λ c. c .before .before .before .loop .inv .7)
+    (λ c. c .before .before .before .loop .inv .8)
+    (λ c. c .before .before .before .loop .inv .9)
     (λ c. search needs))

@@ -13,7 +13,12 @@ unfolding turn
 returns c = yes _ (lt-ltb _ _ (c .if1 .taken)) refl
 
 returns-2 : tie.Need-returns-2
-returns-2 c = turn-is _ _ _ _ _ _ _ _ _ _ _ (c .before .before .before .before .before .before .before .before .before .before .before .before .before .before .before .before .before .before .before .before .before .before .before .before .before .if1 .left) (c .before .before .before .before .before .before .before .before .before .before .before .before .before .before .before .before .before .before .perform-line .ensures) (c .before .before .before .before .before .number .ensures) (c .before .before .print .ensures)
+returns-2 c =
+    let prints = c .before .before in
+    let numbers = prints .before .before .before in
+    let performs = numbers .before .before .before .before .before .before .before .before .before .before .before .before .before in
+    let room = performs .before .before .before .before .before .before .before in
+    turn-is _ _ _ _ _ _ _ _ _ _ _ (room .if1 .left) (performs .perform-line .ensures) (numbers .number .ensures) (prints .print .ensures)
 
 pub answer-line-spec : {M : Type 1} → statement M
 answer-line-spec =

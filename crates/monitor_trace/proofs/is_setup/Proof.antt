@@ -1,5 +1,5 @@
 -- `monitor_trace::is_setup` meets its contract: the request by its tags, and a setup has the first. Assumes nothing.
-use mathlib.Core.Path.{refl, sym}
+use mathlib.Core.Path.{sym}
 use Rattle.trace_requests.specs.Lines.{spelling}
 use borrow.Author.Needs.{needs}
 use Rattle.monitor_trace.proofs.TraceLaws.{plain-other, flow-other}

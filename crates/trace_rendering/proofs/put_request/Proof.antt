@@ -16,11 +16,11 @@ returns-2 c = in-case (c .before .before .before .before .before .request2 .give
 
 returns-3 : tie.Need-returns-3
 unfolding spelling
-returns-3 c = in-case (c .before .before .before .before .before .before .request3 .given .1) (c .before .before .put-line .ensures)
+returns-3 c = in-case (c .before .before .before .before .before .request3 .given .1) (c .before .before .put-one .ensures)
 
 returns-4 : tie.Need-returns-4
 unfolding spelling
-returns-4 c = in-case (c .before .before .before .before .before .before .request4 .given .1) (c .before .before .put-line2 .ensures)
+returns-4 c = in-case (c .before .before .before .before .before .request4 .given .1) (c .before .before .put-one2 .ensures)
 
 pub put-request-spec : {M : Type 1} → statement M
 put-request-spec =
@@ -31,9 +31,7 @@ put-request-spec =
     (λ c. search needs)
     (λ c κs. search needs)
     (λ c. search needs)
-    (λ c. search needs)
     (λ c κs. search needs)
-    (λ c. search needs)
     (λ c. search needs)
     (λ c κs. search needs)
     (λ c. search needs)
