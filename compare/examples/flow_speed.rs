@@ -1,12 +1,11 @@
 //! Times the entries that do commands beside plain Rust, and prints the ratios. Process and resume run beside the same work on the same words;
 //! the flow's broadcast beside a plain judge, the sender's own doing and then the original Rust's broadcast.
-use compare::flow::{EFFECT_WORDS, FLOW_VALUE_WORDS};
-use compare::tables::{Tables, VALUE_WORDS};
+use compare::tables::Tables;
 use compare::timing::{ratio, ratio_on};
-use compare::{HART_WORDS, QUEUE_WORDS};
+use compare::{EFFECT_WORDS, HART_WORDS, QUEUE_WORDS};
 use oracle::core::control_data::HardwareHart;
-use oracle::driver::Command;
-use plain::{are_sound, started};
+use oudrameng::{ConfidentialHartId, ConfidentialHartRemoteCommand, Error, FlowAnswer, HardwareHartId, ResumableOperation, Resumed};
+use plain::{are_sound, original_command, started};
 use std::hint::black_box;
 
 mod plain;
@@ -14,29 +13,32 @@ mod plain;
 /// The hardware hart that holds a hart.
 const K: usize = 1;
 
-/// The tables with room for effects and values.
+/// What the held hart waits for.
+const OPERATION: ResumableOperation = ResumableOperation { kind: 3, x: 4, y: 5 };
+
+/// The tables with room for effects.
 #[derive(Clone, PartialEq)]
 struct Lent {
     tables: Tables,
     effects: Vec<u64>,
-    value: [u64; FLOW_VALUE_WORDS],
 }
 
 /// Process as one would write it.
-fn process(lent: &mut Lent, k: usize) -> u64 {
-    let Lent { tables, effects, value } = lent;
+fn process(lent: &mut Lent, k: usize) -> FlowAnswer<u64> {
+    let Lent { tables, effects } = lent;
+    let refused = |error| FlowAnswer { did: 0, answer: Err(error) };
     if !are_sound(tables) {
-        return 12;
+        return refused(Error::TablesNotSound);
     }
     if effects.len() < 64 * EFFECT_WORDS {
-        return 13;
+        return refused(Error::RoomTooShort);
     }
     if k as u64 >= tables.head[1] {
-        return 14;
+        return refused(Error::NoSuchHardwareHart);
     }
     let held = &mut tables.hardware[k * HART_WORDS..][..HART_WORDS];
     if held[0] == 0 {
-        return 16;
+        return refused(Error::HardwareHartIdle);
     }
     let queue = &mut tables.queues[held[1] as usize * QUEUE_WORDS..][..QUEUE_WORDS];
     let count = queue[0];
@@ -48,50 +50,50 @@ fn process(lent: &mut Lent, k: usize) -> u64 {
         }
     }
     queue.fill(0);
-    value[..2].fill(count);
-    0
+    FlowAnswer { did: count as usize, answer: Ok(count) }
 }
 
 /// Resume as one would write it.
-fn resume(lent: &mut Lent, k: usize) -> u64 {
-    let number = process(lent, k);
-    if number == 0 {
+fn resume(lent: &mut Lent, k: usize) -> FlowAnswer<Resumed> {
+    let FlowAnswer { did, answer } = process(lent, k);
+    let resumed = answer.map(|_| {
         let held = &mut lent.tables.hardware[k * HART_WORDS..][..HART_WORDS];
         if held[2] == 3 {
-            lent.value[1] = 1;
+            Resumed::Off
         } else if held[3] != 0 {
-            lent.value[1] = 2;
-            lent.value[2..5].copy_from_slice(&held[3..6]);
+            let operation = ResumableOperation { kind: held[3], x: held[4], y: held[5] };
             held[3..6].fill(0);
+            Resumed::Operation(operation)
         } else {
-            lent.value[1] = 0;
+            Resumed::Run
         }
-    }
-    number
+    });
+    FlowAnswer { did, answer: resumed }
 }
 
 /// Hardware hart 1 holds the last hart, which waits for an operation. So many commands wait for it, and none for the others.
 fn held(n: usize, m: usize, waiting: usize) -> Lent {
     let (mut tables, _, _) = started(n, m, 0);
-    assert_eq!(tables.steal_confidential_hart(n as u64 - 1, K as u64, &mut [0; VALUE_WORDS]), 0);
-    assert_eq!(tables.set_resumable_operation(K as u64, [3, 4, 5]), 0);
-    for start in 0..waiting {
-        let command = Command { kind: 3, mask: 1, base: n - 1, start, size: 4096, tag: 0 };
-        assert_eq!(tables.broadcast_remote_command(n as u64, command, &mut [0; VALUE_WORDS]), 0);
+    let mut vm = tables.lend();
+    assert_eq!(vm.steal_confidential_hart(ConfidentialHartId(n as u64 - 1), HardwareHartId(K as u64)), Ok(0));
+    assert_eq!(vm.confidential_flow(HardwareHartId(K as u64)).set_resumable_operation(&OPERATION), Ok(()));
+    for start in 0..waiting as u64 {
+        let command = ConfidentialHartRemoteCommand::remote_sfence_vma(1, n as u64 - 1, start, 4096);
+        assert_eq!(vm.broadcast_remote_command(n as u64, &command), Ok(1 << K));
     }
-    Lent { tables, effects: vec![u64::MAX; 64 * EFFECT_WORDS], value: [u64::MAX; FLOW_VALUE_WORDS] }
+    Lent { tables, effects: vec![u64::MAX; 64 * EFFECT_WORDS] }
 }
 
 /// Our process.
-fn our_process(lent: &mut Lent) {
-    let Lent { tables, effects, value } = black_box(lent);
-    assert_eq!(tables.process_confidential_hart_remote_commands(K as u64, effects, value), 0);
+fn our_process(lent: &mut Lent) -> FlowAnswer<u64> {
+    let Lent { tables, effects } = black_box(lent);
+    tables.lend().confidential_flow(HardwareHartId(K as u64)).process_confidential_hart_remote_commands(effects)
 }
 
 /// Our resume.
-fn our_resume(lent: &mut Lent) {
-    let Lent { tables, effects, value } = black_box(lent);
-    assert_eq!(tables.resume_confidential_hart_execution(K as u64, effects, value), 0);
+fn our_resume(lent: &mut Lent) -> FlowAnswer<Resumed> {
+    let Lent { tables, effects } = black_box(lent);
+    tables.lend().confidential_flow(HardwareHartId(K as u64)).resume_confidential_hart_execution(effects)
 }
 
 /// Times process and resume, and what of a process is not the judging of the tables.
@@ -105,17 +107,31 @@ fn time_queued(n: usize, m: usize, waiting: usize) {
         lent.tables.queues[queue.clone()].copy_from_slice(&start.tables.queues[queue.clone()]);
     };
     let size = format!("{waiting} commands, {n} harts");
-    ratio_on(&format!("process, {size}"), [&mut ours, &mut rust], ready, our_process, |lent| {
-        assert_eq!(process(black_box(lent), black_box(K)), 0)
-    });
-    assert!(ours == rust && ours.value[..2] == [waiting as u64; 2]);
-    ratio_on(&format!("resume, {size}"), [&mut ours, &mut rust], ready, our_resume, |lent| {
-        assert_eq!(resume(black_box(lent), black_box(K)), 0)
-    });
-    assert!(ours == rust && ours.value == [waiting as u64, 2, 3, 4, 5]);
-    ratio_on(&format!("process beside our soundness alone, {size}"), [&mut ours, &mut rust], ready, our_process, |lent| {
-        assert_eq!(black_box(lent).tables.are_tables_sound(), 1)
-    });
+    let processed = FlowAnswer { did: waiting, answer: Ok(waiting as u64) };
+    ratio_on(
+        &format!("process, {size}"),
+        [&mut ours, &mut rust],
+        ready,
+        |lent| assert_eq!(our_process(lent), processed),
+        |lent| assert_eq!(process(black_box(lent), black_box(K)), processed),
+    );
+    assert!(ours == rust);
+    let resumed = FlowAnswer { did: waiting, answer: Ok(Resumed::Operation(OPERATION)) };
+    ratio_on(
+        &format!("resume, {size}"),
+        [&mut ours, &mut rust],
+        ready,
+        |lent| assert_eq!(our_resume(lent), resumed),
+        |lent| assert_eq!(resume(black_box(lent), black_box(K)), resumed),
+    );
+    assert!(ours == rust);
+    ratio_on(
+        &format!("process beside our soundness alone, {size}"),
+        [&mut ours, &mut rust],
+        ready,
+        |lent| assert_eq!(our_process(lent), processed),
+        |lent| assert!(black_box(lent).tables.lend().are_tables_sound()),
+    );
 }
 
 /// Times the broadcast of the command that waits last, from the last hart to all, which does it itself: each other queue is searched, and no
@@ -123,25 +139,26 @@ fn time_queued(n: usize, m: usize, waiting: usize) {
 fn time_broadcast(n: usize, m: usize, waiting: usize) {
     let (mut ours, mut rust, last) = started(n, m, waiting);
     let mut hardware_hart = HardwareHart::init(K);
-    assert_eq!(ours.steal_confidential_hart(n as u64 - 1, K as u64, &mut [0; VALUE_WORDS]), 0);
+    let on = HardwareHartId(K as u64);
+    assert_eq!(ours.lend().steal_confidential_hart(ConfidentialHartId(n as u64 - 1), on), Ok(0));
     rust.steal_confidential_hart(n - 1, &mut hardware_hart).expect("it may run");
     let words = ours.clone();
-    let command = last.to_remote_command().expect("well formed");
+    let command = original_command(&last);
     let mut effects = [[u64::MAX; EFFECT_WORDS]; 2];
     let [did, did_too] = &mut effects;
     ratio(
         &format!("flow broadcast, queues of {waiting}, {n} harts"),
         || {
-            let value = &mut [0; FLOW_VALUE_WORDS];
-            let number = black_box(&mut ours).flow_broadcast_remote_command(K as u64, black_box(last), black_box(did), value);
-            assert_eq!((number, value[0]), (0, 1));
+            let mut vm = black_box(&mut ours).lend();
+            let given = vm.confidential_flow(on).broadcast_remote_command(black_box(&last), black_box(did));
+            assert_eq!(given, FlowAnswer { did: 1, answer: Ok(0) });
         },
         || {
             assert!(are_sound(black_box(&words)));
             let sender = black_box(&hardware_hart).confidential_hart().confidential_hart_id();
             if black_box(&command).is_hart_selected(sender) {
                 did_too[0] = sender as u64;
-                did_too[1..].copy_from_slice(&black_box(last).numbers().map(|number| number as u64));
+                did_too[1..].copy_from_slice(&black_box(&last).numbers());
             }
             black_box(&mut rust).broadcast_remote_command(sender, black_box(command.clone())).expect("it waits already");
         },

@@ -1,8 +1,9 @@
 //! Times the leaves that walk a table beside plain Rust that does the same, and prints the ratios. Each time is the least of many runs, and
 //! the two are run in turn on the same tables.
 use compare::document_01::is_queue;
+use compare::leaves::{Queue, Regions, new_region};
 use compare::timing::ratio;
-use compare::{MOST_REGIONS, QUEUE_WORDS, Queue, Regions, new_region};
+use compare::{MOST_REGIONS, QUEUE_WORDS};
 use oracle::core::control_data::{ConfidentialHart, ConfidentialVm, ConfidentialVmId, ConfidentialVmMmioRegion};
 use oracle::driver::{Command, Random};
 use std::hint::black_box;

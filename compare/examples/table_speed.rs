@@ -1,11 +1,12 @@
 //! Times soundness and the entries on the tables beside plain Rust, and prints the ratios. An entry judges the tables first, which the original
 //! Rust does not: beside each entry runs the original after a judge of the same words in plain Rust.
 use compare::QUEUE_WORDS;
-use compare::tables::{Tables, VALUE_WORDS};
+use compare::tables::Tables;
 use compare::timing::ratio;
 use oracle::core::control_data::HardwareHart;
 use oracle::driver::Random;
-use plain::{are_sound, started};
+use oudrameng::{ConfidentialHartId, HardwareHartId};
+use plain::{are_sound, original_command, started};
 use std::hint::black_box;
 
 mod plain;
@@ -37,7 +38,7 @@ fn main() {
             let size = format!("{n} harts, queues of {waiting}");
             ratio(
                 &format!("soundness, {size}"),
-                || assert_eq!(black_box(&ours).are_tables_sound(), 1),
+                || assert!(black_box(&mut ours).lend().are_tables_sound()),
                 || assert!(are_sound(black_box(&words))),
             );
             let mut mixed = ours.clone();
@@ -45,33 +46,33 @@ fn main() {
             let words_mixed = mixed.clone();
             ratio(
                 &format!("soundness, kinds at random, {size}"),
-                || assert_eq!(black_box(&mixed).are_tables_sound(), 1),
+                || assert!(black_box(&mut mixed).lend().are_tables_sound()),
                 || assert!(are_sound(black_box(&words_mixed))),
             );
             let mut hardware_hart = HardwareHart::init(1);
-            let (h, k) = (n as u64 - 1, 1);
+            let (h, k) = (ConfidentialHartId(n as u64 - 1), HardwareHartId(1));
             // The plain judge also agrees while a hart is stolen.
             let mut stolen = words.clone();
-            assert_eq!(stolen.steal_confidential_hart(h, k, &mut [0; VALUE_WORDS]), 0);
+            assert_eq!(stolen.lend().steal_confidential_hart(h, k), Ok(0));
             assert!(are_sound(&stolen));
             ratio(
                 &format!("steal and return, {size}"),
                 || {
-                    assert_eq!(black_box(&mut ours).steal_confidential_hart(h, k, &mut [0; VALUE_WORDS]), 0);
-                    assert_eq!(black_box(&mut ours).return_confidential_hart(k), 0);
+                    assert_eq!(black_box(&mut ours).lend().steal_confidential_hart(h, k), Ok(0));
+                    assert_eq!(black_box(&mut ours).lend().return_confidential_hart(k), Ok(()));
                 },
                 || {
                     assert!(are_sound(black_box(&words)));
-                    black_box(&mut rust).steal_confidential_hart(h as usize, &mut hardware_hart).expect("it may run");
+                    black_box(&mut rust).steal_confidential_hart(h.0 as usize, &mut hardware_hart).expect("it may run");
                     assert!(are_sound(black_box(&words)));
                     black_box(&mut rust).return_confidential_hart(&mut hardware_hart);
                 },
             );
             // The command that waits last goes to all again: each queue is searched, and nothing changes.
-            let command = last.to_remote_command().expect("well formed");
+            let command = original_command(&last);
             ratio(
                 &format!("broadcast, {size}"),
-                || assert_eq!(black_box(&mut ours).broadcast_remote_command(0, black_box(last), &mut [0; VALUE_WORDS]), 0),
+                || assert_eq!(black_box(&mut ours).lend().broadcast_remote_command(0, black_box(&last)), Ok(0)),
                 || {
                     assert!(are_sound(black_box(&words)));
                     black_box(&mut rust).broadcast_remote_command(0, black_box(command.clone())).expect("it waits already");

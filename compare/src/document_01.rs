@@ -1,6 +1,9 @@
-//! Document 01's paragraph on sound tables, written out in plain Rust.
-use crate::tables::{HEAD_WORDS, Tables};
-use crate::{HART_WORDS, MOST_REGIONS, QUEUE_WORDS, REGION_WORDS};
+//! Document 01 written out in plain Rust: its paragraph on sound tables, and its table of the numbers given back with the order of the checks.
+use crate::entries::{records_asked, value_words_asked};
+use crate::pair::Ask;
+use crate::tables::Tables;
+use crate::{EFFECT_WORDS, HART_WORDS, HEAD_WORDS, MOST_REGIONS, QUEUE_WORDS, REGION_WORDS};
+use oracle::driver::{Command, Request};
 
 /// A record's parts are known ones, an absent operation has two zeros, and a dummy is Started, has no operation and zero registers.
 pub fn is_record(row: &[u64]) -> bool {
@@ -40,11 +43,7 @@ pub fn is_region_table(words: &[u64], count: u64) -> bool {
 
 /// The tables are long enough for n harts and m hardware harts.
 pub fn is_long_enough(tables: &Tables, n: usize, m: usize) -> bool {
-    tables.head.len() >= HEAD_WORDS
-        && tables.home.len() >= n * HART_WORDS
-        && tables.hardware.len() >= m * HART_WORDS
-        && tables.queues.len() >= n * QUEUE_WORDS
-        && tables.regions.len() >= MOST_REGIONS * REGION_WORDS
+    tables.runs().iter().zip(Tables::needed(n, m)).all(|(run, needed)| run.len() >= needed)
 }
 
 /// The tables are long enough, counts are in range, records are as they must be, unused places are 0, and home row h holds dummy k exactly when
@@ -67,4 +66,92 @@ pub fn are_sound(tables: &Tables) -> bool {
         && stolen == held
         && tables.queues[..n as usize * QUEUE_WORDS].chunks(QUEUE_WORDS).all(is_queue)
         && is_region_table(&tables.regions, regions)
+}
+
+/// The number that a request on tables is answered with. The caller says whether the tables are sound.
+pub fn number(tables: &Tables, is_sound: bool, ask: &Ask) -> u64 {
+    checks(tables, is_sound, ask).err().unwrap_or(0)
+}
+
+fn check(holds: bool, number: u64) -> Result<(), u64> {
+    if holds { Ok(()) } else { Err(number) }
+}
+
+/// The checks in document 01's order. Too little room for values is 13 and comes first: that check is the C functions' own.
+fn checks(tables: &Tables, is_sound: bool, ask: &Ask) -> Result<(), u64> {
+    check(ask.value_words >= value_words_asked(&ask.request), 13)?;
+    if let Request::Setup { harts, hardware_harts, boot, .. } = ask.request {
+        check((1..=1024).contains(&harts) && (1..=64).contains(&hardware_harts) && boot < harts, 18)?;
+        return check(is_long_enough(tables, harts, hardware_harts), 13);
+    }
+    check(is_sound, 12)?;
+    check(ask.effects_words >= EFFECT_WORDS * records_asked(&ask.request), 13)?;
+    let (n, m) = tables.sizes();
+    // The row of the real hart that a hardware hart holds.
+    let held = |k: usize| {
+        check(k < m, 14)?;
+        check(tables.hardware_row(k)[0] == 1, 16)?;
+        Ok(tables.hardware_row(k))
+    };
+    let is_known = |command: Command| is_command(&command.numbers().map(|number| number as u64));
+    match ask.request {
+        Request::Setup { .. } | Request::Allow { .. } | Request::Home => Ok(()),
+        Request::Steal { hart, hardware_hart } => {
+            check(hardware_hart < m, 14)?;
+            check(tables.hardware_row(hardware_hart)[0] == 0, 15)?;
+            check(hart < n, 1)?;
+            check(tables.home_row(hart)[0] == 1, 2)?;
+            check(is_executable(tables.home_row(hart)), 3)
+        }
+        Request::Start { hart, .. } => {
+            check(hart < n, 1)?;
+            check(tables.home_row(hart)[0] == 1, 2)?;
+            check(tables.home_row(hart)[2] == 1, 4)
+        }
+        Request::Suspend { hardware_hart } => check(held(hardware_hart)?[2] == 0, 5),
+        Request::Stop { hardware_hart } => check(held(hardware_hart)?[2] == 0, 6),
+        Request::Wake { hardware_hart, .. } => check(held(hardware_hart)?[2] == 2, 7),
+        Request::Return { hardware_hart }
+        | Request::Off { hardware_hart }
+        | Request::Process { hardware_hart }
+        | Request::Resume { hardware_hart } => held(hardware_hart).map(|_| ()),
+        Request::Status { hart } => check(hart < n, 1),
+        Request::Await { hardware_hart, kind, .. } => {
+            check((1..=5).contains(&kind), 19)?;
+            check(held(hardware_hart)?[3] == 0, 17)
+        }
+        Request::Broadcast { hardware_hart, command } => {
+            check(is_known(command), 19)?;
+            let sender = held(hardware_hart)?[1];
+            check(all_have_room(tables, sender, command), 8)
+        }
+        Request::Send { sender, command } => {
+            check(is_known(command), 19)?;
+            check(all_have_room(tables, sender as u64, command), 8)
+        }
+        Request::Add { base, size } => {
+            let end = base.checked_add(size).ok_or(11_u64)?;
+            let regions = tables.head[3] as usize;
+            let overlaps = |place: &[u64]| place[0] < end as u64 && (base as u64) < place[1];
+            check(regions < MOST_REGIONS, 9)?;
+            check(!tables.regions.chunks(REGION_WORDS).take(regions).any(overlaps), 10)
+        }
+        Request::Remove { base, size } | Request::Defined { base, size } => check(base.checked_add(size).is_some(), 11),
+    }
+}
+
+/// A home row takes commands, and its hart may be stolen: a dummy is Started.
+fn is_executable(row: &[u64]) -> bool {
+    row[2] == 0 || row[2] == 2
+}
+
+/// Every hart that a command goes to has fewer than 64 waiting.
+fn all_have_room(tables: &Tables, sender: u64, command: Command) -> bool {
+    let selected = |h: usize| {
+        command.kind == 6
+            || command.base == usize::MAX
+            || h.checked_sub(command.base).is_some_and(|bit| bit < 64 && command.mask >> bit & 1 == 1)
+    };
+    let takes = |h: usize| selected(h) && h as u64 != sender && is_executable(tables.home_row(h));
+    (0..tables.sizes().0).filter(|&h| takes(h)).all(|h| tables.queue(h)[0] < 64)
 }

@@ -9,5 +9,6 @@ unsafe extern "C" {
 
 /// Writes a line over the front of `out` as it was read, and gives how many bytes that are.
 pub fn rewrite_line(text: &[u8], out: &mut [u8]) -> usize {
+    // SAFETY: both are slices, the second borrowed alone, and the function takes any bytes and any room.
     unsafe { oudrameng_rewrite_line(text.as_ptr(), text.len(), out.as_mut_ptr(), out.len()) }
 }

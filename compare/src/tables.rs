@@ -1,10 +1,30 @@
-//! The tables of one VM, and the proved entries on them. An entry takes any numbers and any tables, and gives document 01's number. One whose
-//! answer may have values takes one more slice, of at least `VALUE_WORDS` words, and writes them over its front.
-use oracle::driver::Command;
+//! The tables of one VM, as a caller owns them.
+use crate::{HART_WORDS, HEAD_WORDS, MOST_REGIONS, QUEUE_WORDS, REGION_WORDS};
+use oudrameng::ConfidentialVm;
+use std::fmt::{Display, Formatter};
 
-pub const HEAD_WORDS: usize = 4;
-/// The room that an entry asks for the values of its answer.
-pub const VALUE_WORDS: usize = 4;
+/// One of a VM's tables.
+#[derive(Clone, Copy, PartialEq, Eq, Debug)]
+pub enum Table {
+    Head,
+    Home,
+    Hardware,
+    Queues,
+    Regions,
+}
+
+/// How many tables a VM has.
+pub const TABLES: usize = 5;
+
+impl Table {
+    pub const ALL: [Self; TABLES] = [Self::Head, Self::Home, Self::Hardware, Self::Queues, Self::Regions];
+}
+
+impl Display for Table {
+    fn fmt(&self, f: &mut Formatter<'_>) -> std::fmt::Result {
+        f.write_str(["head", "home", "hardware", "queues", "regions"][*self as usize])
+    }
+}
 
 /// Five runs of words, of any length: the counts and the allowed mask, the home rows, the hardware rows, the queues and the regions.
 #[derive(Clone, PartialEq, Debug)]
@@ -16,264 +36,74 @@ pub struct Tables {
     pub regions: Vec<u64>,
 }
 
-#[rustfmt::skip]
-unsafe extern "C" {
-    fn oudrameng_are_tables_sound(head: *const u64, head_words: usize, home: *const u64, home_words: usize, hardware: *const u64, hardware_words: usize, queues: *const u64, queues_words: usize, regions: *const u64, regions_words: usize) -> u64;
-    fn oudrameng_new(n: u64, m: u64, boot: u64, a1: u64, mepc: u64, vsatp: u64, vsstatus: u64, head: *mut u64, head_words: usize, home: *mut u64, home_words: usize, hardware: *mut u64, hardware_words: usize, queues: *mut u64, queues_words: usize, regions: *mut u64, regions_words: usize) -> u64;
-    fn oudrameng_steal_confidential_hart(hart: u64, on: u64, head: *const u64, head_words: usize, home: *mut u64, home_words: usize, hardware: *mut u64, hardware_words: usize, queues: *const u64, queues_words: usize, regions: *const u64, regions_words: usize, value: *mut u64, value_words: usize) -> u64;
-    fn oudrameng_return_confidential_hart(on: u64, head: *const u64, head_words: usize, home: *mut u64, home_words: usize, hardware: *mut u64, hardware_words: usize, queues: *const u64, queues_words: usize, regions: *const u64, regions_words: usize) -> u64;
-    fn oudrameng_allow_external_interrupt(bits: u64, head: *mut u64, head_words: usize, home: *const u64, home_words: usize, hardware: *const u64, hardware_words: usize, queues: *const u64, queues_words: usize, regions: *const u64, regions_words: usize) -> u64;
-    fn oudrameng_start_confidential_hart(hart: u64, address: u64, opaque: u64, head: *const u64, head_words: usize, home: *mut u64, home_words: usize, hardware: *const u64, hardware_words: usize, queues: *const u64, queues_words: usize, regions: *const u64, regions_words: usize) -> u64;
-    fn oudrameng_confidential_hart_lifecycle_state(hart: u64, head: *const u64, head_words: usize, home: *const u64, home_words: usize, hardware: *const u64, hardware_words: usize, queues: *const u64, queues_words: usize, regions: *const u64, regions_words: usize, value: *mut u64, value_words: usize) -> u64;
-    fn oudrameng_is_vm_executing(head: *const u64, head_words: usize, home: *const u64, home_words: usize, hardware: *const u64, hardware_words: usize, queues: *const u64, queues_words: usize, regions: *const u64, regions_words: usize, value: *mut u64, value_words: usize) -> u64;
-    fn oudrameng_broadcast_remote_command(sender: u64, kind: u64, mask: u64, base: u64, start: u64, size: u64, tag: u64, head: *const u64, head_words: usize, home: *const u64, home_words: usize, hardware: *const u64, hardware_words: usize, queues: *mut u64, queues_words: usize, regions: *const u64, regions_words: usize, value: *mut u64, value_words: usize) -> u64;
-    fn oudrameng_add_mmio_region(base: u64, size: u64, head: *mut u64, head_words: usize, home: *const u64, home_words: usize, hardware: *const u64, hardware_words: usize, queues: *const u64, queues_words: usize, regions: *mut u64, regions_words: usize) -> u64;
-    fn oudrameng_remove_mmio_region(base: u64, size: u64, head: *mut u64, head_words: usize, home: *const u64, home_words: usize, hardware: *const u64, hardware_words: usize, queues: *const u64, queues_words: usize, regions: *mut u64, regions_words: usize) -> u64;
-    fn oudrameng_is_mmio_region_defined(base: u64, size: u64, head: *const u64, head_words: usize, home: *const u64, home_words: usize, hardware: *const u64, hardware_words: usize, queues: *const u64, queues_words: usize, regions: *const u64, regions_words: usize, value: *mut u64, value_words: usize) -> u64;
+impl Tables {
+    /// How many words each table needs for n harts and m hardware harts.
+    pub fn needed(n: usize, m: usize) -> [usize; TABLES] {
+        [HEAD_WORDS, n * HART_WORDS, m * HART_WORDS, n * QUEUE_WORDS, MOST_REGIONS * REGION_WORDS]
+    }
+
+    /// Tables of so many words, each word as it is given.
+    pub fn filled(words: [usize; TABLES], mut word: impl FnMut() -> u64) -> Self {
+        let [head, home, hardware, queues, regions] = words.map(|count| (0..count).map(|_| word()).collect());
+        Self { head, home, hardware, queues, regions }
+    }
+
+    pub fn lend(&mut self) -> ConfidentialVm<'_> {
+        let Self { head, home, hardware, queues, regions } = self;
+        ConfidentialVm { head, home, hardware, queues, regions }
+    }
+
+    pub fn runs(&self) -> [&Vec<u64>; TABLES] {
+        [&self.head, &self.home, &self.hardware, &self.queues, &self.regions]
+    }
+
+    pub fn runs_mut(&mut self) -> [&mut Vec<u64>; TABLES] {
+        [&mut self.head, &mut self.home, &mut self.hardware, &mut self.queues, &mut self.regions]
+    }
+
+    pub fn run_mut(&mut self, table: Table) -> &mut Vec<u64> {
+        self.runs_mut().into_iter().nth(table as usize).expect("there are five")
+    }
+
+    /// Makes these tables equal others, without new memory where theirs suffices.
+    pub fn copy(&mut self, others: &Self) {
+        for (ours, others) in self.runs_mut().into_iter().zip(others.runs()) {
+            ours.clone_from(others);
+        }
+    }
+
+    /// How many harts and hardware harts sound tables have.
+    pub fn sizes(&self) -> (usize, usize) {
+        (self.head[0] as usize, self.head[1] as usize)
+    }
+
+    /// A home row, a hardware row, a queue.
+    pub fn home_row(&self, h: usize) -> &[u64] {
+        &self.home[h * HART_WORDS..][..HART_WORDS]
+    }
+
+    pub fn hardware_row(&self, k: usize) -> &[u64] {
+        &self.hardware[k * HART_WORDS..][..HART_WORDS]
+    }
+
+    pub fn queue(&self, h: usize) -> &[u64] {
+        &self.queues[h * QUEUE_WORDS..][..QUEUE_WORDS]
+    }
+
+    /// The first word in which these tables differ from what they should be.
+    pub fn difference(&self, expected: &Self) -> Option<String> {
+        let runs = self.runs().into_iter().zip(expected.runs());
+        Table::ALL.into_iter().zip(runs).find_map(|(table, (ours, expected))| difference(table, ours, expected))
+    }
 }
 
-impl Tables {
-    pub fn are_tables_sound(&self) -> u64 {
-        unsafe {
-            oudrameng_are_tables_sound(
-                self.head.as_ptr(),
-                self.head.len(),
-                self.home.as_ptr(),
-                self.home.len(),
-                self.hardware.as_ptr(),
-                self.hardware.len(),
-                self.queues.as_ptr(),
-                self.queues.len(),
-                self.regions.as_ptr(),
-                self.regions.len(),
-            )
-        }
+/// The first word of ours that is not as it should be.
+pub fn difference(name: impl Display, ours: &[u64], expected: &[u64]) -> Option<String> {
+    if ours == expected {
+        return None;
     }
-
-    /// n, m, the boot hart, and its a1, mepc, vsatp and vsstatus.
-    pub fn set_up(&mut self, [n, m, boot, a1, mepc, vsatp, vsstatus]: [u64; 7]) -> u64 {
-        unsafe {
-            oudrameng_new(
-                n,
-                m,
-                boot,
-                a1,
-                mepc,
-                vsatp,
-                vsstatus,
-                self.head.as_mut_ptr(),
-                self.head.len(),
-                self.home.as_mut_ptr(),
-                self.home.len(),
-                self.hardware.as_mut_ptr(),
-                self.hardware.len(),
-                self.queues.as_mut_ptr(),
-                self.queues.len(),
-                self.regions.as_mut_ptr(),
-                self.regions.len(),
-            )
-        }
-    }
-
-    pub fn steal_confidential_hart(&mut self, hart: u64, on: u64, value: &mut [u64]) -> u64 {
-        unsafe {
-            oudrameng_steal_confidential_hart(
-                hart,
-                on,
-                self.head.as_ptr(),
-                self.head.len(),
-                self.home.as_mut_ptr(),
-                self.home.len(),
-                self.hardware.as_mut_ptr(),
-                self.hardware.len(),
-                self.queues.as_ptr(),
-                self.queues.len(),
-                self.regions.as_ptr(),
-                self.regions.len(),
-                value.as_mut_ptr(),
-                value.len(),
-            )
-        }
-    }
-
-    pub fn return_confidential_hart(&mut self, on: u64) -> u64 {
-        unsafe {
-            oudrameng_return_confidential_hart(
-                on,
-                self.head.as_ptr(),
-                self.head.len(),
-                self.home.as_mut_ptr(),
-                self.home.len(),
-                self.hardware.as_mut_ptr(),
-                self.hardware.len(),
-                self.queues.as_ptr(),
-                self.queues.len(),
-                self.regions.as_ptr(),
-                self.regions.len(),
-            )
-        }
-    }
-
-    pub fn allow_external_interrupt(&mut self, bits: u64) -> u64 {
-        unsafe {
-            oudrameng_allow_external_interrupt(
-                bits,
-                self.head.as_mut_ptr(),
-                self.head.len(),
-                self.home.as_ptr(),
-                self.home.len(),
-                self.hardware.as_ptr(),
-                self.hardware.len(),
-                self.queues.as_ptr(),
-                self.queues.len(),
-                self.regions.as_ptr(),
-                self.regions.len(),
-            )
-        }
-    }
-
-    pub fn start_confidential_hart(&mut self, hart: u64, address: u64, opaque: u64) -> u64 {
-        unsafe {
-            oudrameng_start_confidential_hart(
-                hart,
-                address,
-                opaque,
-                self.head.as_ptr(),
-                self.head.len(),
-                self.home.as_mut_ptr(),
-                self.home.len(),
-                self.hardware.as_ptr(),
-                self.hardware.len(),
-                self.queues.as_ptr(),
-                self.queues.len(),
-                self.regions.as_ptr(),
-                self.regions.len(),
-            )
-        }
-    }
-
-    pub fn confidential_hart_lifecycle_state(&self, hart: u64, value: &mut [u64]) -> u64 {
-        unsafe {
-            oudrameng_confidential_hart_lifecycle_state(
-                hart,
-                self.head.as_ptr(),
-                self.head.len(),
-                self.home.as_ptr(),
-                self.home.len(),
-                self.hardware.as_ptr(),
-                self.hardware.len(),
-                self.queues.as_ptr(),
-                self.queues.len(),
-                self.regions.as_ptr(),
-                self.regions.len(),
-                value.as_mut_ptr(),
-                value.len(),
-            )
-        }
-    }
-
-    pub fn is_vm_executing(&self, value: &mut [u64]) -> u64 {
-        unsafe {
-            oudrameng_is_vm_executing(
-                self.head.as_ptr(),
-                self.head.len(),
-                self.home.as_ptr(),
-                self.home.len(),
-                self.hardware.as_ptr(),
-                self.hardware.len(),
-                self.queues.as_ptr(),
-                self.queues.len(),
-                self.regions.as_ptr(),
-                self.regions.len(),
-                value.as_mut_ptr(),
-                value.len(),
-            )
-        }
-    }
-
-    pub fn broadcast_remote_command(&mut self, sender: u64, command: Command, value: &mut [u64]) -> u64 {
-        let [kind, mask, base, start, size, tag] = command.numbers().map(|number| number as u64);
-        unsafe {
-            oudrameng_broadcast_remote_command(
-                sender,
-                kind,
-                mask,
-                base,
-                start,
-                size,
-                tag,
-                self.head.as_ptr(),
-                self.head.len(),
-                self.home.as_ptr(),
-                self.home.len(),
-                self.hardware.as_ptr(),
-                self.hardware.len(),
-                self.queues.as_mut_ptr(),
-                self.queues.len(),
-                self.regions.as_ptr(),
-                self.regions.len(),
-                value.as_mut_ptr(),
-                value.len(),
-            )
-        }
-    }
-
-    pub fn add_mmio_region(&mut self, base: u64, size: u64) -> u64 {
-        unsafe {
-            oudrameng_add_mmio_region(
-                base,
-                size,
-                self.head.as_mut_ptr(),
-                self.head.len(),
-                self.home.as_ptr(),
-                self.home.len(),
-                self.hardware.as_ptr(),
-                self.hardware.len(),
-                self.queues.as_ptr(),
-                self.queues.len(),
-                self.regions.as_mut_ptr(),
-                self.regions.len(),
-            )
-        }
-    }
-
-    pub fn remove_mmio_region(&mut self, base: u64, size: u64) -> u64 {
-        unsafe {
-            oudrameng_remove_mmio_region(
-                base,
-                size,
-                self.head.as_mut_ptr(),
-                self.head.len(),
-                self.home.as_ptr(),
-                self.home.len(),
-                self.hardware.as_ptr(),
-                self.hardware.len(),
-                self.queues.as_ptr(),
-                self.queues.len(),
-                self.regions.as_mut_ptr(),
-                self.regions.len(),
-            )
-        }
-    }
-
-    pub fn is_mmio_region_defined(&self, base: u64, size: u64, value: &mut [u64]) -> u64 {
-        unsafe {
-            oudrameng_is_mmio_region_defined(
-                base,
-                size,
-                self.head.as_ptr(),
-                self.head.len(),
-                self.home.as_ptr(),
-                self.home.len(),
-                self.hardware.as_ptr(),
-                self.hardware.len(),
-                self.queues.as_ptr(),
-                self.queues.len(),
-                self.regions.as_ptr(),
-                self.regions.len(),
-                value.as_mut_ptr(),
-                value.len(),
-            )
-        }
-    }
+    Some(match ours.iter().zip(expected).position(|(word, other)| word != other) {
+        Some(at) => format!("word {at} of {name} is {} in ours and should be {}", ours[at], expected[at]),
+        None => format!("{name} has {} words in ours and should have {}", ours.len(), expected.len()),
+    })
 }

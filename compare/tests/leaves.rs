@@ -2,7 +2,8 @@
 //! a command's form beside the oracle's reading of document 01, since the Rust's own is not at hand. What decides soundness is run beside
 //! document 01's paragraph written out in `src/document_01.rs`.
 use compare::document_01::{is_queue, is_record, is_region_table};
-use compare::{HART_WORDS, MOST_REGIONS, QUEUE_WORDS, Queue, Regions, Row, is_hart_selected, is_well_formed, new_region, original};
+use compare::leaves::{Queue, Regions, Row, is_hart_selected, is_well_formed, new_region};
+use compare::{HART_WORDS, MOST_REGIONS, QUEUE_WORDS, original};
 use oracle::core::architecture::GeneralPurposeRegister;
 use oracle::core::architecture::riscv::sbi::NaclSharedMemory;
 use oracle::core::control_data::{ConfidentialHart, ConfidentialVm, ConfidentialVmId, ConfidentialVmMmioRegion};

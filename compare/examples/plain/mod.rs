@@ -1,9 +1,10 @@
 //! What the tables are timed beside, in plain Rust.
 use compare::document_01::{is_long_enough, is_queue, is_record, is_region_table};
-use compare::tables::{HEAD_WORDS, Tables, VALUE_WORDS};
-use compare::{HART_WORDS, MOST_REGIONS, QUEUE_WORDS, REGION_WORDS};
+use compare::tables::Tables;
+use compare::{HART_WORDS, HEAD_WORDS, QUEUE_WORDS};
 use oracle::core::control_data::{ConfidentialHart, ConfidentialVm, ConfidentialVmId};
 use oracle::driver::Command;
+use oudrameng::{ConfidentialHartId, ConfidentialHartRemoteCommand, Setup};
 
 /// Soundness as one would write it.
 pub fn are_sound(tables: &Tables) -> bool {
@@ -31,28 +32,29 @@ pub fn are_sound(tables: &Tables) -> bool {
 }
 
 /// A VM whose harts all are Started and have so many commands each, as ours and as the original, and the command that waits last in each queue.
-pub fn started(n: usize, m: usize, waiting: usize) -> (Tables, ConfidentialVm, Command) {
+pub fn started(n: usize, m: usize, waiting: usize) -> (Tables, ConfidentialVm, ConfidentialHartRemoteCommand) {
     // Every word is written before it is timed.
-    let room = |words: usize| vec![u64::MAX; words];
-    let mut ours = Tables {
-        head: room(HEAD_WORDS),
-        home: room(n * HART_WORDS),
-        hardware: room(m * HART_WORDS),
-        queues: room(n * QUEUE_WORDS),
-        regions: room(MOST_REGIONS * REGION_WORDS),
-    };
-    assert_eq!(ours.set_up([n as u64, m as u64, 0, 1, 2, 3, 4]), 0);
+    let mut ours = Tables::filled(Tables::needed(n, m), || u64::MAX);
+    let mut lent = ours.lend();
+    let boot = ConfidentialHartId(0);
+    let setup = Setup { harts: n as u64, hardware: m as u64, boot, a1: 1, mepc: 2, vsatp: 3, vsstatus: 4 };
+    assert_eq!(lent.set_up(&setup), Ok(()));
     let mut rust = ConfidentialVm::new(ConfidentialVmId::new(1), (0..n).map(ConfidentialHart::from_vm_hart_reset).collect());
     rust.start_confidential_hart(0, 2, 1).expect("it is stopped");
     for hart in 1..n {
-        assert_eq!(ours.start_confidential_hart(hart as u64, 2, 1), 0);
+        assert_eq!(lent.start_confidential_hart(ConfidentialHartId(hart as u64), 2, 1), Ok(()));
         rust.start_confidential_hart(hart, 2, 1).expect("it is stopped");
     }
-    let mut last = Command::default();
-    for start in 0..waiting {
-        last = Command { kind: 3, mask: start + 1, base: usize::MAX, start, size: 4096, tag: 0 };
-        assert_eq!(ours.broadcast_remote_command(n as u64, last, &mut [0; VALUE_WORDS]), 0);
-        rust.broadcast_remote_command(n, last.to_remote_command().expect("well formed")).expect("there is room");
+    let mut last = ConfidentialHartRemoteCommand::default();
+    for start in 0..waiting as u64 {
+        last = ConfidentialHartRemoteCommand::remote_sfence_vma(start + 1, u64::MAX, start, 4096);
+        assert_eq!(lent.broadcast_remote_command(n as u64, &last), Ok(0));
+        rust.broadcast_remote_command(n, original_command(&last)).expect("there is room");
     }
     (ours, rust, last)
+}
+
+/// A command as the original Rust has it.
+pub fn original_command(command: &ConfidentialHartRemoteCommand) -> oracle::core::control_data::ConfidentialHartRemoteCommand {
+    Command::of_numbers(&command.numbers().map(|number| number as usize)).to_remote_command().expect("well formed")
 }

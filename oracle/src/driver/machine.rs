@@ -86,7 +86,7 @@ pub struct Machine {
 }
 
 impl Machine {
-    const VM: usize = 1;
+    pub const VM: usize = 1;
     const MOST_HARDWARE_HARTS: usize = 64;
 
     /// The tables of the trace program.
@@ -141,10 +141,15 @@ impl Machine {
         let before = self.tables();
         let result = caught(|| run(self));
         if result.is_none() {
-            ControlDataStorage::store(before.confidential_vm);
-            self.hardware_harts = before.hardware_harts;
+            self.put_back(before);
         }
         result
+    }
+
+    /// Makes the tables what they were at another time, or what a comparison wants them to be.
+    pub fn put_back(&mut self, tables: Tables) {
+        ControlDataStorage::store(tables.confidential_vm);
+        self.hardware_harts = tables.hardware_harts;
     }
 
     /// The checks that the Rust does not make, in document 01's order. 16 is among them only where the Rust does not assert it.

@@ -175,7 +175,7 @@ impl ConfidentialVm {
     }
 }
 
-/* Added for Oudrameng: what a comparison looks at */
+/* Added for Oudrameng: what a comparison looks at and puts in */
 impl ConfidentialVm {
     pub fn confidential_harts(&self) -> &[ConfidentialHart] {
         &self.confidential_harts
@@ -187,5 +187,13 @@ impl ConfidentialVm {
 
     pub fn mmio_regions(&self) -> &[ConfidentialVmMmioRegion] {
         &self.mmio_regions
+    }
+
+    pub fn confidential_harts_mut(&mut self) -> &mut [ConfidentialHart] {
+        &mut self.confidential_harts
+    }
+
+    pub fn mmio_regions_mut(&mut self) -> &mut Vec<ConfidentialVmMmioRegion> {
+        &mut self.mmio_regions
     }
 }
