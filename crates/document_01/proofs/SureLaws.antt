@@ -1,84 +1,26 @@
--- Requests on sound tables, without asking soundness at each: what a case prints is then computed. Assumes nothing.
-use mathlib.Core.Path.{_≡_, refl, sym, ap, _∙_}
+-- Cases without asking soundness at each request: what a case prints is then computed. Assumes nothing.
+use mathlib.Core.Path.{_≡_, refl, ap, _∙_}
 use mathlib.Core.Bool.{Bool, true, false, _&&_, not}
 use mathlib.Core.List.{List, [], _∷_, map}
 use Prim.Native.Nat.{ℕ}
 use lib.Dec.{eqb}
 use borrow.Author.Tests.{not-true, eqb-true}
-use Rattle.error.specs.declared.Error.{Error}
 use Rattle.table_rows.specs.Lists.{allOf}
-use Rattle.table_rows.proofs.PickLaws.{by-test, yes, no, not-no, and-left, and-right}
+use Rattle.table_rows.proofs.PickLaws.{and-left, and-right}
 use Rattle.monitor_requests.specs.declared.Setup as declared
-use Rattle.confidential_hart_remote_command.specs.declared.ConfidentialHartRemoteCommand.{ConfidentialHartRemoteCommand}
-use Rattle.confidential_hart.specs.declared.HardwareHartId.{HardwareHartId}
-use Rattle.monitor_requests.specs.declared.Request.{Request}
-use Rattle.monitor_requests.specs.declared.Request.the-variants.{Setup, Send}
+use Rattle.monitor_requests.specs.declared.Request.the-variants.{Setup}
 use Rattle.monitor_requests.specs.declared.Answer.the-variants.{Done}
 use Rattle.monitor_requests.specs.Tables.{Tables, sound}
-use Rattle.monitor_requests.specs.Requests.{Test, Outcome, judged, refusedOn, tests, effect, performed}
+use Rattle.monitor_requests.specs.Requests.{Outcome, effect, performed}
 use Rattle.monitor_requests.proofs.AnswerLaws.{isRefused}
 use Rattle.monitor_requests.proofs.SetupLaws.{setup-sound}
-use Rattle.monitor_requests.proofs.JudgedLaws.{Passed, by-performed, later, sound-judged}
+use Rattle.monitor_requests.proofs.JudgedLaws.{by-performed}
 use Rattle.flow_requests.specs.declared.FlowRequest.{FlowRequest}
-use Rattle.flow_requests.specs.declared.FlowRequest.the-variants.{Plain, Broadcast, Process, Resume}
-use Rattle.flow_requests.specs.FlowRequests.{
-  FlowOutcome,
-  flowRefusedOn,
-  flowTests,
-  flowEffect,
-  flowPerformed,
-  heldId,
-  doing,
-  ownCommands,
-  withEffects,
-}
-use Rattle.flow_requests.proofs.FlowLaws.{plainly, plain-is, isFlowSetup, Held, broadcast-held, flow-sound}
-use Rattle.flow_requests.proofs.DoingLaws.{did-sound}
-use Rattle.document_01.specs.Cases.{Case, Seen, told, Played, andThen, step, play, setUp, seen, room, effectsRoom}
-
--- ---- a request on sound tables
-
--- what the tables give on a request that is no setup: the tests after 12 decide
-abbrev judgedOn : Request → Tables → Outcome
-judgedOn r t = judged (refusedOn t) (later (tests r t)) (effect r t)
-
--- the sender's own doing, and then the broadcast of the tables
-abbrev sureBroadcast : ConfidentialHartRemoteCommand → ℕ → ℕ → Tables → List ℕ → FlowOutcome
-sureBroadcast c k h t effects = withEffects h (ownCommands c h) (judgedOn (Send h c) (doing (ownCommands c h) k t)) effects
-
--- the outcome of a request that is no setup
-abbrev pub sure : FlowRequest → Tables → List ℕ → FlowOutcome
-sure (Plain r) t effects = plainly effects (judgedOn r t)
-sure (Broadcast on c) t effects =
-    judged (flowRefusedOn t effects) (later (flowTests (Broadcast on c) t effects)) (sureBroadcast c (on .0) (heldId t (on .0)) t effects)
-sure (Process on) t effects = judged (flowRefusedOn t effects) (later (flowTests (Process on) t effects)) (flowEffect (Process on) t effects)
-sure (Resume on) t effects = judged (flowRefusedOn t effects) (later (flowTests (Resume on) t effects)) (flowEffect (Resume on) t effects)
-
--- what follows the tests matters only where they are passed
-judged-next : (refusal : Error → FlowOutcome) (xs : List Test) (next next′ : FlowOutcome) → (Passed xs → next ≡ next′)
-    → judged refusal xs next ≡ judged refusal xs next′
-judged-next refusal [] next next′ f = f tt
-judged-next refusal (x ∷ xs) next next′ f =
-    by-test (x .when) (λ e. sym (yes _ e refl) ∙ yes _ e refl)
-    (λ e. sym (no _ e refl) ∙ judged-next refusal xs next next′ (λ p. f (e, p)) ∙ no _ e refl)
-
--- a broadcast that passes its tests
-own-is : (on : HardwareHartId) (c : ConfidentialHartRemoteCommand) (t : Tables) (effects : List ℕ) → sound t ≡ true → Held t (on .0)
-    → flowEffect (Broadcast on c) t effects ≡ sureBroadcast c (on .0) (heldId t (on .0)) t effects
-unfolding flowEffect
-own-is on c t effects s x =
-    ap (λ (o : Outcome). withEffects (heldId t (on .0)) (ownCommands c (heldId t (on .0))) o effects)
-    (sound-judged (Send (heldId t (on .0)) c) _ refl (did-sound t s (on .0) (x .k-below) (ownCommands c (heldId t (on .0)))))
-
--- a request that is no setup, on sound tables
-pub sure-is : (r : FlowRequest) (t : Tables) (effects : List ℕ) → isFlowSetup r ≡ false → sound t ≡ true → flowPerformed r t effects ≡ sure r t effects
-unfolding flowPerformed flowTests
-sure-is (Plain r) t effects other s = plain-is r t effects ∙ ap (plainly effects) (sound-judged r t other s)
-sure-is (Broadcast on c) t effects other s =
-    judged-next (flowRefusedOn t effects) (flowTests (Broadcast on c) t effects) _ _ (λ p. own-is on c t effects s (broadcast-held on c t effects p))
-    ∙ sym (no _ (not-no _ s) refl)
-sure-is (Process on) t effects other s = sym (no _ (not-no _ s) refl)
-sure-is (Resume on) t effects other s = sym (no _ (not-no _ s) refl)
+use Rattle.flow_requests.specs.FlowRequests.{FlowOutcome}
+use Rattle.flow_requests.proofs.FlowLaws.{plain-is, isFlowSetup, flow-sound}
+use Rattle.flow_requests.proofs.SureLaws.{sure, sure-is}
+use Rattle.ledger.specs.Example.{room, effectsRoom}
+use Rattle.document_01.specs.Cases.{Case, Seen, told, Played, andThen, step, play, setUp, seen}
 
 -- ---- a case
 

@@ -25,7 +25,8 @@ use Rattle.flow_requests.specs.FlowRequests.{didRows, ownCommands, goesOn, flow
 use Rattle.trace_text.specs.Text.{bytes, digits}
 use Rattle.trace_requests.specs.Lines.{spelling}
 use Rattle.trace_answers.specs.Printed.{answerLine, printed}
-use Rattle.document_01.specs.Cases.{told, seen, lines, p1-setup, p1-requests, cases}
+use Rattle.ledger.specs.Example.{p1-setup, p1-requests}
+use Rattle.document_01.specs.Cases.{told, seen, lines, cases}
 use Rattle.document_01.proofs.SureLaws.{proper, asTold, all-seen}
 
 -- each case may be computed

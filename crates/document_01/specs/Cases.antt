@@ -1,26 +1,21 @@
 -- Document 01's cases P1 to P9 as one table: a setup, the requests after it, what is printed, and what else is then looked at.
-use Prim.Native.Nat.{ℕ, suc, zero, _*_}
+use Prim.Native.Nat.{ℕ, suc, zero}
 use mathlib.Core.List.{List, [], _∷_, _++_}
-use lib.ListN.{replicate}
 use Rattle.table_rows.specs.Rows.{rowsOf}
 use Rattle.table_rows.specs.Lists.{upTo}
 use Rattle.table_rows.specs.Choice.{pick}
 use Rattle.confidential_hart_remote_command.specs.declared.ConfidentialHartRemoteCommand.{ConfidentialHartRemoteCommand}
-use Rattle.confidential_hart_remote_command.specs.Command.{ipi, remoteSfenceVma, toWords}
+use Rattle.confidential_hart_remote_command.specs.Command.{ipi, toWords}
 use Rattle.confidential_hart_remote_command.specs.Selection.{selects}
-use Rattle.remote_commands.specs.Queue.{maxCommands, queueWords, count, commandAt}
-use Rattle.effects.specs.Effects.{effectWords}
-use Rattle.mmio_regions.specs.Regions.{maxRegions}
-use Rattle.mmio_regions.specs.Table.{regionWords, wordsOf}
-use Rattle.confidential_hart.specs.declared.ConfidentialHartId.{ConfidentialHartId}
-use Rattle.confidential_hart.specs.declared.HardwareHartId.{HardwareHartId}
-use Rattle.hart_rows.specs.Rows.{hartWords}
+use Rattle.remote_commands.specs.Queue.{count, commandAt}
+use Rattle.mmio_regions.specs.Table.{wordsOf}
 use Rattle.monitor_requests.specs.declared.Setup as declared
-use Rattle.monitor_requests.specs.declared.Request.the-variants.{Setup, Steal, Return, Start, Stop, Send, Add, Remove}
-use Rattle.monitor_requests.specs.Tables.{Tables, tables, headWords, homeHart, queue, regionsOf}
+use Rattle.monitor_requests.specs.declared.Request.the-variants.{Setup}
+use Rattle.monitor_requests.specs.Tables.{Tables, homeHart, queue, regionsOf}
 use Rattle.flow_requests.specs.declared.FlowRequest.{FlowRequest}
-use Rattle.flow_requests.specs.declared.FlowRequest.the-variants.{Plain, Broadcast, Resume}
+use Rattle.flow_requests.specs.declared.FlowRequest.the-variants.{Plain}
 use Rattle.flow_requests.specs.FlowRequests.{FlowOutcome, answerIn, flowPerformed}
+use Rattle.ledger.specs.Example.{setup, steal, return, start, stop, add, remove, command, send, fence, room, effectsRoom, p1-setup, p1-requests}
 use Rattle.trace_text.specs.Text.{bytes, lineEnd}
 use Rattle.trace_requests.specs.Lines.{lineOf}
 use Rattle.trace_answers.specs.Printed.{printed}
@@ -43,17 +38,6 @@ pub record Seen : Type 0 where
 -- what document 01 says
 abbrev pub told : Case → Seen
 told c = record { printed = c .prints; shown = c .shows }
-
--- tables with just the room that a setup asks for, all 0
-abbrev pub room : declared.Setup → Tables
-room s =
-    tables (replicate headWords 0) (replicate (s .harts * hartWords) 0) (replicate (s .hardware * hartWords) 0)
-    (replicate (s .harts * queueWords) 0)
-    (replicate (maxRegions * regionWords) 0)
-
--- room for as many effects as a queue has commands
-abbrev pub effectsRoom : List ℕ
-effectsRoom = replicate (maxCommands * effectWords) 0
 
 -- what is printed so far, and the tables and the effects room after it
 pub record Played : Type 0 where
@@ -82,64 +66,7 @@ setUp s = andThen [] (flowPerformed (Plain (Setup s)) (room s) effectsRoom)
 abbrev pub seen : Case → Seen
 seen c = record { printed = play (setUp (c .setup)) (c .requests) .text; shown = c .look (play (setUp (c .setup)) (c .requests) .after) }
 
--- ---- requests, written as in a trace
-
--- what setup takes
-abbrev pub setup : ℕ → ℕ → ℕ → ℕ → ℕ → ℕ → ℕ → declared.Setup
-setup n m boot a1 mepc vsatp vsstatus =
-    record { harts = n; hardware = m; boot = boot; a1 = a1; mepc = mepc; vsatp = vsatp; vsstatus = vsstatus }
-
--- hart h
-abbrev pub hart : ℕ → ConfidentialHartId
-hart h = record { 0 = h }
-
--- hardware hart k
-abbrev pub on : ℕ → HardwareHartId
-on k = record { 0 = k }
-
--- hart h moves to hardware hart k
-abbrev pub steal : ℕ → ℕ → FlowRequest
-steal h k = Plain (Steal (hart h) (on k))
-
--- the hart on hardware hart k goes home
-abbrev pub return : ℕ → FlowRequest
-return k = Plain (Return (on k))
-
--- hart h starts
-abbrev pub start : ℕ → ℕ → ℕ → FlowRequest
-start h address opaque = Plain (Start (hart h) address opaque)
-
--- the hart on hardware hart k stops
-abbrev pub stop : ℕ → FlowRequest
-stop k = Plain (Stop (on k))
-
--- it does what waits for it, and goes on
-abbrev pub resume : ℕ → FlowRequest
-resume k = Resume (on k)
-
--- a region is added
-abbrev pub add : ℕ → ℕ → FlowRequest
-add base size = Plain (Add base size)
-
--- the regions that overlap one are removed
-abbrev pub remove : ℕ → ℕ → FlowRequest
-remove base size = Plain (Remove base size)
-
--- a command, in the order of its numbers
-abbrev pub command : ℕ → ℕ → ℕ → ℕ → ℕ → ℕ → ConfidentialHartRemoteCommand
-command kind mask base from size tag = record { kind = kind; mask = mask; base = base; start = from; size = size; tag = tag }
-
--- the hart on hardware hart k sends a command
-abbrev pub broadcast : ℕ → ConfidentialHartRemoteCommand → FlowRequest
-broadcast k c = Broadcast (on k) c
-
--- a sender's number sends a command
-abbrev pub send : ℕ → ConfidentialHartRemoteCommand → FlowRequest
-send sender c = Plain (Send sender c)
-
--- page i is fenced on the harts of a mask
-abbrev pub fence : ℕ → ℕ → ConfidentialHartRemoteCommand
-fence mask i = command remoteSfenceVma mask 0 (i * 4096) 4096 0
+-- ---- requests
 
 -- n different fences, sent by no hart
 abbrev pub fences : ℕ → ℕ → List FlowRequest
@@ -186,24 +113,6 @@ times n text = rowsOf (λ i. text) n
 -- 2^64 − 1
 abbrev pub last : ℕ
 last = 18446744073709551615
-
--- the setup of P1
-abbrev pub p1-setup : declared.Setup
-p1-setup = setup 2 2 0 4096 8192 0 0
-
--- the requests after it
-abbrev pub p1-requests : List FlowRequest
-p1-requests =
-    steal 0 0
-    ∷ steal 0 1
-    ∷ steal 1 1
-    ∷ start 1 64 7
-    ∷ broadcast 0 (command ipi 3 0 0 0 0)
-    ∷ steal 1 1
-    ∷ broadcast 0 (command ipi 3 0 0 0 0)
-    ∷ resume 1
-    ∷ return 0
-    ∷ []
 
 -- document 01's cases
 unfoldable pub cases : List Case

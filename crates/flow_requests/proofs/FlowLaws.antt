@@ -16,7 +16,7 @@ use Rattle.table_rows.specs.Lists.{allOf}
 use Rattle.table_rows.proofs.PickLaws.{yes, no, by-test, not-yes, not-no}
 use Rattle.confidential_hart_remote_command.specs.declared.ConfidentialHartRemoteCommand.{ConfidentialHartRemoteCommand}
 use Rattle.confidential_hart_remote_command.specs.Command.{wellFormed}
-use Rattle.remote_commands.specs.Queue.{maxCommands, count}
+use Rattle.remote_commands.specs.Queue.{maxCommands}
 use Rattle.effects.specs.Effects.{effectWords}
 use Rattle.confidential_hart.specs.declared.HardwareHartId.{HardwareHartId}
 use Rattle.confidential_hart.specs.Hart.{isDummy}

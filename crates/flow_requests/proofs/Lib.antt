@@ -3,3 +3,4 @@ pub mod DoingLaws
 pub mod FlowLaws
 pub mod FlowWriteLaws
 pub mod TellLaws
+pub mod SureLaws

@@ -1,0 +1,2 @@
+-- Where a hart stands.
+pub mod Standing

@@ -1,0 +1,8 @@
+-- The theorem, and the laws that it needs.
+mod ReadLaws
+mod NextLaws
+mod StepLaws
+mod WordLaws
+mod AgreeLaws
+pub mod Theorem
+mod Example

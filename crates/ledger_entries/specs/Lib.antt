@@ -1,0 +1,2 @@
+-- What the contracts of `ledger_entries` cite.
+pub mod Steps
