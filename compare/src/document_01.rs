@@ -132,12 +132,24 @@ fn checks(tables: &Tables, is_sound: bool, ask: &Ask) -> Result<(), u64> {
         Request::Add { base, size } => {
             let end = base.checked_add(size).ok_or(11_u64)?;
             let regions = tables.head[3] as usize;
-            let overlaps = |place: &[u64]| place[0] < end as u64 && (base as u64) < place[1];
+            let overlaps = |place: &[u64]| overlap([place[0] as usize, place[1] as usize], [base, end]);
             check(regions < MOST_REGIONS, 9)?;
             check(!tables.regions.chunks(REGION_WORDS).take(regions).any(overlaps), 10)
         }
         Request::Remove { base, size } | Request::Defined { base, size } => check(base.checked_add(size).is_some(), 11),
     }
+}
+
+/// The base is 2^64 − 1, or the hart's bit, counted from the base, is in the mask; kind 6 selects all.
+pub fn is_selected(command: &Command, h: usize) -> bool {
+    command.kind == 6
+        || command.base == usize::MAX
+        || h.checked_sub(command.base).is_some_and(|bit| bit < 64 && command.mask >> bit & 1 == 1)
+}
+
+/// Two regions, each as its base and its end: each base is below the other's end.
+pub fn overlap(one: [usize; 2], other: [usize; 2]) -> bool {
+    one[0] < other[1] && other[0] < one[1]
 }
 
 /// A home row takes commands, and its hart may be stolen: a dummy is Started.
@@ -147,11 +159,6 @@ fn is_executable(row: &[u64]) -> bool {
 
 /// Every hart that a command goes to has fewer than 64 waiting.
 fn all_have_room(tables: &Tables, sender: u64, command: Command) -> bool {
-    let selected = |h: usize| {
-        command.kind == 6
-            || command.base == usize::MAX
-            || h.checked_sub(command.base).is_some_and(|bit| bit < 64 && command.mask >> bit & 1 == 1)
-    };
-    let takes = |h: usize| selected(h) && h as u64 != sender && is_executable(tables.home_row(h));
+    let takes = |h: usize| is_selected(&command, h) && h as u64 != sender && is_executable(tables.home_row(h));
     (0..tables.sizes().0).filter(|&h| takes(h)).all(|h| tables.queue(h)[0] < 64)
 }

@@ -86,9 +86,11 @@ impl Style {
 
     /// The next step on sound tables.
     pub fn step(&self, random: &mut Random, tables: &Tables) -> Step {
-        if random.one_in(40) {
-            return register(random, tables);
-        }
+        if random.one_in(40) { register(random, tables) } else { Step::Ask(self.ask(random, tables)) }
+    }
+
+    /// The next request on sound tables, now and then with little room.
+    pub fn ask(&self, random: &mut Random, tables: &Tables) -> Ask {
         let mut ask = Ask::from(self.request(random, tables));
         if random.one_in(8) {
             ask.effects_words = random.of(&EFFECTS_WORDS);
@@ -96,7 +98,7 @@ impl Style {
         if random.one_in(50) {
             ask.value_words = random.below(MOST_VALUE_WORDS);
         }
-        Step::Ask(ask)
+        ask
     }
 
     /// The next request on sound tables.

@@ -5,6 +5,7 @@ pub mod draw;
 pub mod entries;
 pub mod leaves;
 pub mod lines;
+pub mod log;
 pub mod original;
 pub mod pair;
 pub mod runs;

@@ -1,6 +1,6 @@
 //! Runs the proved entries and the original Rust side by side, and says how many requests of each kind were compared with each number.
 use compare::draw::MAX;
-use compare::runs::{damage, edges, exhaustive, interleavings, lines, sequences, side_by_side};
+use compare::runs::{damage, edges, exhaustive, interleavings, lines, log, sequences, side_by_side};
 use compare::seen::{Seen, parted};
 use compare::tables::{TABLES, Table};
 use std::fmt::Display;
@@ -19,6 +19,9 @@ struct Amounts {
     sequences: [(usize, usize); 3],
     /// How long every sequence from the alphabet is.
     length: usize,
+    /// The rows are worked out from the log of every sequence so long, and of random sequences: how many of each size and the requests of each,
+    /// as above.
+    worked_out: (usize, [(usize, usize); 3]),
     /// Pairs of lists drawn at random, beside those by hand.
     drawn: usize,
     /// Sizes of good states that are damaged in every word, and how many states of each.
@@ -29,11 +32,19 @@ struct Amounts {
     traces: (usize, usize),
 }
 
-const SLICE: Amounts =
-    Amounts { sequences: [(4, 5000), (4, 1000), (4, 100)], length: 4, drawn: 200, damaged: (&[(2, 2)], 1), words: 20, traces: (40, 5000) };
+const SLICE: Amounts = Amounts {
+    sequences: [(4, 5000), (4, 1000), (4, 100)],
+    length: 4,
+    worked_out: (3, [(4, 1000), (2, 500), (1, 200)]),
+    drawn: 200,
+    damaged: (&[(2, 2)], 1),
+    words: 20,
+    traces: (40, 5000),
+};
 const ALL: Amounts = Amounts {
     sequences: [(40, 25_000), (20, 10_000), (12, 1000)],
     length: 5,
+    worked_out: (4, [(20, 5000), (10, 2000), (6, 1000)]),
     drawn: 10_000,
     damaged: (&[(1, 1), (2, 2), (3, 2), (2, 3)], 8),
     words: 200,
@@ -51,15 +62,23 @@ fn run<E: Display>(name: &str, seen: &mut Seen, jobs: usize, job: impl Fn(usize)
 
 fn compare(amounts: &Amounts, seen: &mut Seen) -> Result<(), String> {
     let sizes = sequences::sizes();
-    let sequences: Vec<_> = sizes
-        .iter()
-        .flat_map(|&size| {
-            let (count, steps) = amounts.sequences[(size.0 >= 63) as usize + (size.0 > 65) as usize];
+    let of_each_size = |amounts: [(usize, usize); 3]| {
+        let all = sizes.iter().flat_map(|&size| {
+            let (count, steps) = amounts[(size.0 >= 63) as usize + (size.0 > 65) as usize];
             repeat_n((size, steps), count)
-        })
-        .collect();
+        });
+        all.collect::<Vec<_>>()
+    };
+    let sequences = of_each_size(amounts.sequences);
     run("sequences", seen, sequences.len(), |at| sequences::run(at as u64, sequences[at].0, sequences[at].1))?;
     run("exhaustive", seen, exhaustive::alphabet().len(), |first| exhaustive::run(first, amounts.length))?;
+    let letters = exhaustive::alphabet().len();
+    let (length, drawn) = (amounts.worked_out.0, of_each_size(amounts.worked_out.1));
+    run("worked out", seen, letters + 1 + drawn.len(), |at| match at.checked_sub(letters + 1) {
+        Some(at) => log::run(at as u64, drawn[at].0, drawn[at].1),
+        None if at < letters => log::every_sequence(at, length),
+        None => log::all_regions(),
+    })?;
     let edges = edges::jobs();
     run("edges", seen, edges.len(), |at| edges::run(&edges[at]))?;
     let by_hand = interleavings::jobs();

@@ -1,6 +1,7 @@
 //! The original Rust and our tables side by side: the same steps go to both, and after each everything that they give and hold is compared.
 use crate::document_01::{are_sound, number};
 use crate::entries::{Entry, records_asked, value_words_asked};
+use crate::log::{Log, Note};
 use crate::original::{read_words, write_words};
 use crate::seen::{Seen, kind};
 use crate::tables::{Table, Tables, difference};
@@ -121,6 +122,10 @@ pub struct Pair {
     is_sound: bool,
     /// Our room for effects, and what should stand there.
     effects: [Vec<u64>; 2],
+    /// Who notes requests in a log, where one is kept, and after how many the rows are worked out from it.
+    noted: Option<(Note, usize)>,
+    /// The log since the last accepted setup.
+    log: Option<Log>,
 }
 
 /// Both at one time, to go back to.
@@ -129,6 +134,7 @@ pub struct Moment {
     machine: driver::Tables,
     tables: Tables,
     is_sound: bool,
+    log: Option<Log>,
 }
 
 impl Pair {
@@ -143,10 +149,17 @@ impl Pair {
             expected: tables.clone(),
             is_sound: false,
             effects: [(); 2].map(|()| (0..ROOM as u64).map(|place| 0x0506_0708 * (place + 1)).collect()),
+            noted: None,
+            log: None,
         };
         MADE.set(pair.made);
         pair.judge().expect("the tables that a run starts with are judged alike");
         pair
+    }
+
+    /// A log is kept, and after so many of its requests, again and again, the rows are worked out from it.
+    pub fn with_log(self, note: Note, every: usize) -> Self {
+        Self { noted: Some((note, every)), ..self }
     }
 
     pub fn tables(&self) -> &Tables {
@@ -189,7 +202,14 @@ impl Pair {
                 }
             }
         }
+        // What is changed from outside is in no log.
+        self.log = None;
         self.judge().map(|()| None)
+    }
+
+    /// Works every row out from the log, if there is one, and compares it.
+    pub fn work_out(&self) -> Result<(), String> {
+        self.log.as_ref().and_then(|log| log.difference(&self.ours)).map_or(Ok(()), Err)
     }
 
     /// Gives a request to both.
@@ -213,6 +233,12 @@ impl Pair {
             return Err(complaint);
         }
         self.seen.count(kind(&ask.request), number, panicked);
+        if let Some((note, every)) = self.noted {
+            note(&mut self.log, &ask.request, number);
+            if self.log.as_ref().is_some_and(|log| log.length().is_multiple_of(every)) {
+                self.work_out()?;
+            }
+        }
         Ok(expected)
     }
 
@@ -239,7 +265,7 @@ impl Pair {
     }
 
     pub fn moment(&self) -> Moment {
-        Moment { machine: self.machine.tables(), tables: self.expected.clone(), is_sound: self.is_sound }
+        Moment { machine: self.machine.tables(), tables: self.expected.clone(), is_sound: self.is_sound, log: self.log.clone() }
     }
 
     pub fn go_back(&mut self, moment: &Moment) {
@@ -247,6 +273,7 @@ impl Pair {
         self.ours.copy(&moment.tables);
         self.expected.copy(&moment.tables);
         self.is_sound = moment.is_sound;
+        self.log.clone_from(&moment.log);
     }
 }
 

@@ -1,7 +1,6 @@
 //! The shortest sequence that shows a disagreement.
-use crate::entries::Entry;
 use crate::pair::{Pair, Step};
-use crate::tables::{TABLES, Tables};
+use crate::tables::TABLES;
 use oracle::driver::Random;
 use std::fmt::{Display, Formatter};
 use std::time::{Duration, Instant};
@@ -87,11 +86,11 @@ pub fn shortest_way(length: usize, tries: usize, first: impl Fn(&[usize]) -> Opt
     found.next().unwrap_or_else(|| left.clone())
 }
 
-/// The shortest sequence of these steps that shows a disagreement.
-pub fn shortest(start: &Tables, entry: Entry, steps: &[Step]) -> Disagreement {
-    let words = start.runs().map(Vec::len);
+/// The shortest sequence of these steps that shows a disagreement, where `start` gives the pair that they begin with.
+pub fn shortest(start: impl Fn() -> Pair, steps: &[Step]) -> Disagreement {
+    let words = start().tables().runs().map(Vec::len);
     let Left { places, complaint, is_tried } = shortest_way(steps.len(), MOST_WORDS / words.iter().sum::<usize>().max(1), |places| {
-        let mut pair = Pair::new(start, entry);
+        let mut pair = start();
         let mut steps = places.iter().map(|&place| &steps[place]).enumerate();
         steps.find_map(|(at, step)| pair.take(step).err().map(|complaint| (at, complaint)))
     });

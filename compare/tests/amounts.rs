@@ -1,6 +1,6 @@
 //! The runs do as much as they say: how many requests each compares is worked out by hand.
 use compare::runs::damage::{self, LIMITS};
-use compare::runs::{exhaustive, interleavings, sequences, side_by_side};
+use compare::runs::{exhaustive, interleavings, log, sequences, side_by_side};
 use compare::tables::Table;
 
 #[test]
@@ -10,6 +10,23 @@ fn every_sequence_is_walked() {
         // A setup, the first request, and every sequence of one and of two requests after it.
         let seen = exhaustive::run(first, 3).unwrap_or_else(|found| panic!("{found}"));
         assert_eq!(seen.total(), 1 + 1 + letters + letters * letters);
+    }
+}
+
+#[test]
+fn every_sequence_is_walked_with_its_log() {
+    let letters = exhaustive::alphabet().len() as u64;
+    for first in [0, 24, 33] {
+        let seen = log::every_sequence(first, 3).unwrap_or_else(|found| panic!("{found}"));
+        assert_eq!(seen.total(), 1 + 1 + letters + letters * letters);
+    }
+    // A setup, and twice 1,026 adds and a remove.
+    let seen = log::all_regions().unwrap_or_else(|found| panic!("{found}"));
+    assert_eq!(seen.total(), 1 + 2 * 1027);
+    // A setup and the requests, and before these in some sequences a start for every second hart and up to 64 sends.
+    for seed in 0..8 {
+        let seen = log::run(seed, (8, 2), 500).unwrap_or_else(|found| panic!("{found}"));
+        assert!([0, 4 + 60, 4 + 63, 4 + 64].contains(&(seen.total() - 501)), "{}", seen.total());
     }
 }
 

@@ -53,8 +53,12 @@ fn every(run: &mut Run, alphabet: &[Step], length: usize) -> Agreed<()> {
 
 /// The sequences that begin with one request of the alphabet, after a setup.
 pub fn run(first: usize, length: usize) -> Agreed<Seen> {
+    from(Run::new(noise(&mut Random::new(first as u64), 2, 2), by_c), first, length)
+}
+
+/// The same on a run's tables.
+pub fn from(mut run: Run, first: usize, length: usize) -> Agreed<Seen> {
     let alphabet: Vec<Step> = alphabet().into_iter().map(Step::from).collect();
-    let mut run = Run::new(noise(&mut Random::new(first as u64), 2, 2), by_c);
     run.take(Request::Setup { harts: 2, hardware_harts: 2, boot: 0, a1: 4096, mepc: 8192, vsatp: 7, vsstatus: 7 })?;
     run.take(alphabet[first].clone())?;
     every(&mut run, &alphabet, length - 1)?;

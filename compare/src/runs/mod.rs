@@ -1,5 +1,6 @@
 //! What is run: each run has jobs that go side by side, and each job gives what it compared.
 use crate::entries::Entry;
+use crate::log::Note;
 use crate::pair::{Given, Moment, Pair, Step};
 use crate::seen::Seen;
 use crate::shortest::{Disagreement, shortest};
@@ -13,6 +14,7 @@ pub mod edges;
 pub mod exhaustive;
 pub mod interleavings;
 pub mod lines;
+pub mod log;
 pub mod sequences;
 
 /// What a job gives, or the shortest sequence at which both differ.
@@ -24,11 +26,18 @@ pub struct Run {
     start: Tables,
     entry: Entry,
     steps: Vec<Step>,
+    /// Who notes requests in a log, where one is kept.
+    note: Option<Note>,
 }
 
 impl Run {
     pub fn new(start: Tables, entry: Entry) -> Self {
-        Self { pair: Pair::new(&start, entry), start, entry, steps: Vec::new() }
+        Self { pair: Pair::new(&start, entry), start, entry, steps: Vec::new(), note: None }
+    }
+
+    /// One that keeps a log, and works the rows out from it after so many of its requests, again and again.
+    pub fn with_log(start: Tables, entry: Entry, note: Note, every: usize) -> Self {
+        Self { pair: Pair::new(&start, entry).with_log(note, every), start, entry, steps: Vec::new(), note: Some(note) }
     }
 
     /// The tables as they stand, and what was compared so far.
@@ -47,10 +56,25 @@ impl Run {
     /// Takes a step, or finds the shortest sequence that shows the disagreement.
     pub fn take(&mut self, step: impl Into<Step>) -> Agreed<Option<Given>> {
         self.steps.push(step.into());
-        self.pair.take(&self.steps[self.steps.len() - 1]).map_err(|complaint| {
-            eprintln!("{complaint}; after {} steps, of which fewer are looked for", self.steps.len());
-            Box::new(shortest(&self.start, self.entry, &self.steps))
-        })
+        self.pair.take(&self.steps[self.steps.len() - 1]).map_err(|complaint| self.told(&complaint))
+    }
+
+    /// Works every row out from the log.
+    pub fn work_out(&self) -> Agreed<()> {
+        self.pair.work_out().map_err(|complaint| self.told(&complaint))
+    }
+
+    /// The shortest sequence that shows a disagreement. Where there is a log, the rows are worked out from it after each step.
+    fn told(&self, complaint: &str) -> Box<Disagreement> {
+        eprintln!("{complaint}; after {} steps, of which fewer are looked for", self.steps.len());
+        let start = || {
+            let pair = Pair::new(&self.start, self.entry);
+            match self.note {
+                Some(note) => pair.with_log(note, 1),
+                None => pair,
+            }
+        };
+        Box::new(shortest(start, &self.steps))
     }
 
     /// Takes a step, does what follows it, and goes back to where it was.
