@@ -68,6 +68,7 @@ pub struct ConfidentialHartId(pub u64);
 pub struct HardwareHartId(pub u64);
 
 // A confidential hart of the VM, or the dummy of a hardware hart: `vm` is 1 or, of a dummy, 0.
+#[repr(C)]
 pub struct ConfidentialHart {
     pub vm: u64,
     pub id: u64,

@@ -9,6 +9,7 @@ ghost use Rattle.confidential_vm_mmio_region.specs.Region.{newRegion, ov
 pub const MAX_END: u64 = 0xffff_ffff_ffff_ffff;
 
 // A range of guest physical addresses: its base and one past its end.
+#[repr(C)]
 pub struct ConfidentialVmMmioRegion {
     pub base: u64,
     pub end: u64,

@@ -1,0 +1,2 @@
+-- The definition that the contracts of `lent_hart` cite.
+pub mod Lent

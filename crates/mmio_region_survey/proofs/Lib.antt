@@ -1,0 +1,1 @@
+-- What belongs to no one function of `mmio_region_survey`, and what other crates use.

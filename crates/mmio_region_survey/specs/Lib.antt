@@ -1,0 +1,2 @@
+-- The definitions that the contracts of `mmio_region_survey` cite.
+pub mod Survey
