@@ -129,14 +129,41 @@ fn checks(tables: &Tables, is_sound: bool, ask: &Ask) -> Result<(), u64> {
             check(is_known(command), 19)?;
             check(all_have_room(tables, sender as u64, command), 8)
         }
+        Request::Add { .. } | Request::Remove { .. } | Request::Defined { .. } => {
+            region_checks(&tables.regions, tables.head[3], &ask.request)
+        }
+    }
+}
+
+/// The checks of a request on regions that follow 12.
+fn region_checks(words: &[u64], count: u64, request: &Request) -> Result<(), u64> {
+    match *request {
         Request::Add { base, size } => {
             let end = base.checked_add(size).ok_or(11_u64)?;
-            let regions = tables.head[3] as usize;
             let overlaps = |place: &[u64]| overlap([place[0] as usize, place[1] as usize], [base, end]);
-            check(regions < MOST_REGIONS, 9)?;
-            check(!tables.regions.chunks(REGION_WORDS).take(regions).any(overlaps), 10)
+            check(count < MOST_REGIONS as u64, 9)?;
+            check(!words.chunks(REGION_WORDS).take(count as usize).any(overlaps), 10)
         }
         Request::Remove { base, size } | Request::Defined { base, size } => check(base.checked_add(size).is_some(), 11),
+        _ => panic!("this is not asked of regions: {request:?}"),
+    }
+}
+
+/// The number that adding, removing or asking for a region is answered with on a run of records alone, whose words are given: 12 is judged on the
+/// run.
+pub fn run_number(words: &[u64], count: u64, request: &Request) -> u64 {
+    check(is_region_table(words, count), 12).and_then(|()| region_checks(words, count, request)).err().unwrap_or(0)
+}
+
+/// The numbers that the changes of a record alone are answered with: start, suspend, stop, wake and off.
+pub fn change_numbers(row: &[u64]) -> [u64; 5] {
+    match row[2] {
+        _ if !is_record(row) => [12; 5],
+        _ if row[0] == 0 => [2, 16, 16, 16, 16],
+        0 => [4, 0, 0, 7, 0],
+        1 => [0, 5, 6, 7, 0],
+        2 => [4, 5, 6, 0, 0],
+        _ => [4, 5, 6, 7, 0],
     }
 }
 

@@ -143,7 +143,7 @@ impl Style {
             60..63 => Request::Status { hart: mostly_below(random, n) },
             63..65 => Request::Allow { bits: any(random) },
             at @ 65..78 => {
-                let (base, size) = self.region(random);
+                let (base, size) = region(random, self.unit);
                 match at {
                     65..71 => Request::Add { base, size },
                     71..74 => Request::Remove { base, size },
@@ -170,16 +170,16 @@ impl Style {
             }
         }
     }
+}
 
-    /// The base and the size of a region, often beside or over others.
-    fn region(&self, random: &mut Random) -> (usize, usize) {
-        let base = match random.below(8) {
-            0 => any(random),
-            1 => MAX - random.below(4),
-            _ => random.below(64) * self.unit,
-        };
-        (base, if random.one_in(12) { any(random) } else { random.below(6) * self.unit })
-    }
+/// The base and the size of a region, often beside or over others.
+pub fn region(random: &mut Random, unit: usize) -> (usize, usize) {
+    let base = match random.below(8) {
+        0 => any(random),
+        1 => MAX - random.below(4),
+        _ => random.below(64) * unit,
+    };
+    (base, if random.one_in(12) { any(random) } else { random.below(6) * unit })
 }
 
 /// A real hart's register becomes another number, as when the hart has run.

@@ -1,9 +1,10 @@
 //! The proved functions and the original Rust on the same numbers. `pair` gives both the same requests and compares all that they give and hold;
-//! `runs` has the requests. The leaves and the lines of a trace are compared by the tests.
+//! `runs` has the requests. The leaves, the functions on lent records and the lines of a trace are compared by the tests.
 pub mod document_01;
 pub mod draw;
 pub mod entries;
 pub mod leaves;
+pub mod lent;
 pub mod lines;
 pub mod log;
 pub mod original;

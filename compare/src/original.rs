@@ -68,8 +68,8 @@ fn write_words_of(vm: &ConfidentialVm, machine: &Machine, tables: &mut Tables) {
     unused.fill(0);
 }
 
-/// The hart of a row in sound tables: set up, brought into its lifecycle by the Rust's own changes, then given its registers and operation.
-fn hart_of(row: &[u64]) -> ConfidentialHart {
+/// The hart of a row that is a record: set up, brought into its lifecycle by the Rust's own changes, then given its registers and operation.
+pub fn hart_of(row: &[u64]) -> ConfidentialHart {
     let row: Vec<usize> = row.iter().map(|&word| word as usize).collect();
     let [vm, number, lifecycle, kind, x, y, a0, a1, mepc, vsatp, mstatus, vsstatus] = row[..] else { panic!("a row has twelve words") };
     if vm == 0 {
