@@ -1,5 +1,6 @@
-//! Times the functions on lent records beside plain Rust that does the same, and prints the ratios. A run is judged before it is worked, so the
-//! plain Rust judges it too, as one would write it first. Each time is the least of many runs, and the two are run in turn on the same records.
+//! Times the functions on lent records, by the Rust package, beside plain Rust that does the same, and prints the ratios. A run is judged before
+//! it is worked, so the plain Rust judges it too, as one would write it first. Each time is the least of many runs, and the two are run in turn
+//! on the same records.
 use compare::MOST_REGIONS;
 use compare::leaves::Row;
 use compare::lent::{ConfidentialHart, ConfidentialVmMmioRegion, Run};
@@ -28,7 +29,7 @@ fn runs() {
         let last = 16 * count as u64 - 9;
         ratio(
             &format!("a region that is not defined, {count} regions"),
-            || (0..16).for_each(|_| assert!(!black_box(&ours).is_mmio_region_defined(black_box(12), 2).defined)),
+            || (0..16).for_each(|_| assert!(!black_box(&mut ours).is_mmio_region_defined(black_box(12), 2).defined)),
             || {
                 (0..16).for_each(|_| {
                     let (run, base) = (black_box(&rust), black_box(12));
@@ -113,7 +114,12 @@ fn harts() {
     let mut rust = ours.clone();
     ratio(
         "a start and a stop of each of 1,024 harts",
-        || ours.iter_mut().for_each(|hart| assert_eq!((black_box(&mut *hart).start(64, 7), black_box(hart).stop()), (0, 0))),
+        || {
+            ours.iter_mut().for_each(|hart| {
+                assert_eq!(black_box(&mut *hart).transition_from_stopped_to_started(64, 7), Ok(()));
+                assert_eq!(black_box(hart).transition_from_started_to_stopped(), Ok(()));
+            })
+        },
         || rust.iter_mut().for_each(|hart| assert_eq!((start(black_box(&mut *hart), 64, 7), stop(black_box(hart))), (0, 0))),
     );
 }

@@ -146,7 +146,8 @@ fn remote_command(command: Command) -> ConfidentialHartRemoteCommand {
     }
 }
 
-fn unvalued(answer: Result<(), Error>) -> u64 {
+/// The number of an answer of the package that has no value.
+pub fn unvalued(answer: Result<(), Error>) -> u64 {
     answer.map_or_else(Error::number, |()| 0)
 }
 

@@ -1,8 +1,9 @@
-//! The functions on lent records: the five changes of a hart and the regions as a run, each beside the original Rust, beside what works on plain
-//! words, and beside document 01's words written out in `src/document_01.rs`. Every record that is lent, or lies beside it, is compared.
+//! The functions on lent records, by the Rust package: the five changes of a hart and the regions as a run, each beside the original Rust, beside
+//! what works on plain words, and beside document 01's words written out in `src/document_01.rs`. Every record that is lent, or lies beside it,
+//! is compared.
 use compare::document_01::{change_numbers, is_region_table, run_number};
 use compare::draw::{MAX, any, region};
-use compare::entries::by_c;
+use compare::entries::{by_c, unvalued};
 use compare::leaves::{Regions, Row, new_region};
 use compare::lent::{ConfidentialHart, ConfidentialVmMmioRegion, Defined, Run};
 use compare::original::{hart_of, hart_words};
@@ -12,6 +13,7 @@ use compare::{HART_WORDS, MOST_REGIONS, REGION_WORDS, VALUE_WORDS};
 use oracle::core::control_data as rust;
 use oracle::driver::{Random, Request, number_of};
 use oracle::error::Error;
+use oudrameng::ffi::lent_is_mmio_region_defined;
 use std::collections::BTreeMap;
 use std::fs;
 use std::panic::{AssertUnwindSafe, catch_unwind};
@@ -61,8 +63,13 @@ fn the_header_lists_these_numbers() {
 
 /// The five changes in document 01's order: of a lent record, of a row by value, and of the Rust's hart.
 const CHANGES: [&str; 5] = ["start", "suspend", "stop", "wake", "off"];
-const LENT: [fn(&mut ConfidentialHart, u64, u64) -> u64; 5] =
-    [ConfidentialHart::start, |hart, _, _| hart.suspend(), |hart, _, _| hart.stop(), ConfidentialHart::wake, |hart, _, _| hart.off()];
+const LENT: [fn(&mut ConfidentialHart, u64, u64) -> Result<(), oudrameng::Error>; 5] = [
+    ConfidentialHart::transition_from_stopped_to_started,
+    |hart, _, _| hart.transition_from_started_to_suspended(),
+    |hart, _, _| hart.transition_from_started_to_stopped(),
+    ConfidentialHart::transition_from_suspended_to_started,
+    |hart, _, _| hart.transition_to_shutdown(),
+];
 const BY_VALUE: [fn(&mut Row, u64, u64) -> u64; 5] =
     [Row::start, |row, _, _| row.suspend(), |row, _, _| row.stop(), Row::wake, |row, _, _| row.off()];
 const BY_RUST: [fn(&mut rust::ConfidentialHart, usize, usize) -> Result<(), Error>; 5] = [
@@ -77,7 +84,7 @@ const BY_RUST: [fn(&mut rust::ConfidentialHart, usize, usize) -> Result<(), Erro
 fn lend(change: usize, row: Row, address: u64, opaque: u64) -> (u64, Row) {
     let beside = ConfidentialHart::from(Row([u64::MAX; HART_WORDS]));
     let mut harts = [beside, row.into(), beside];
-    let number = LENT[change](&mut harts[1], address, opaque);
+    let number = unvalued(LENT[change](&mut harts[1], address, opaque));
     assert_eq!([harts[0], harts[2]], [beside; 2], "a record beside the lent one was written");
     (number, harts[1].into())
 }
@@ -217,7 +224,14 @@ fn ask(run: &mut Run, request: &Request) -> Defined {
     match request {
         Request::Add { .. } => Defined { number: run.add(base, size), defined: false },
         Request::Remove { .. } => Defined { number: run.remove(base, size), defined: false },
-        _ => run.is_mmio_region_defined(base, size),
+        _ => {
+            let given = run.is_mmio_region_defined(base, size);
+            // Where it is refused the package has no flag, and the C function says no.
+            // SAFETY: the run is a slice, and the function takes any records and any numbers.
+            let by_c = unsafe { lent_is_mmio_region_defined(run.records.as_ptr(), run.records.len(), run.count, base, size) };
+            assert_eq!(given, by_c, "{request:?} {run:?}");
+            given
+        }
     }
 }
 

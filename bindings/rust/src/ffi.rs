@@ -1,5 +1,9 @@
 //! The proved C functions, as `include/oudrameng.h` declares them. Each takes numbers and then runs of words, a run as its first word and its
 //! length, and gives document 01's number. Any numbers and any words will do, if the runs are there and do not overlap.
+//!
+//! Those on lent records, as `include/oudrameng_lent.h` declares them, come last. Each takes a record, or a run as its first record and its
+//! length, and then numbers.
+use crate::{ConfidentialHart, ConfidentialVmMmioRegion};
 
 /// A run that is read, or that is also written.
 macro_rules! words {
@@ -42,4 +46,31 @@ declared! {
         const head, const home, mut hardware, mut queues, const regions, mut effects, mut value);
     oudrameng_resume_confidential_hart_execution(on;
         const head, const home, mut hardware, mut queues, const regions, mut effects, mut value);
+}
+
+/// What adding and removing give: the number, and how many regions stand then.
+#[derive(Clone, Copy, PartialEq, Eq, Debug)]
+#[repr(C)]
+pub struct Changed {
+    pub number: u64,
+    pub count: u64,
+}
+
+/// What asking for a region gives: the number, and whether one region contains it. A refusal says no.
+#[derive(Clone, Copy, PartialEq, Eq, Debug)]
+#[repr(C)]
+pub struct Defined {
+    pub number: u64,
+    pub defined: bool,
+}
+
+unsafe extern "C" {
+    pub fn lent_start(hart: *mut ConfidentialHart, address: u64, opaque: u64) -> u64;
+    pub fn lent_suspend(hart: *mut ConfidentialHart) -> u64;
+    pub fn lent_stop(hart: *mut ConfidentialHart) -> u64;
+    pub fn lent_wake(hart: *mut ConfidentialHart, address: u64, opaque: u64) -> u64;
+    pub fn lent_off(hart: *mut ConfidentialHart) -> u64;
+    pub fn lent_add_mmio_region(regions: *mut ConfidentialVmMmioRegion, _: usize, count: u64, base: u64, size: u64) -> Changed;
+    pub fn lent_remove_mmio_region(regions: *mut ConfidentialVmMmioRegion, _: usize, count: u64, base: u64, size: u64) -> Changed;
+    pub fn lent_is_mmio_region_defined(regions: *const ConfidentialVmMmioRegion, _: usize, count: u64, base: u64, size: u64) -> Defined;
 }

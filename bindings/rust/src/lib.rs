@@ -3,21 +3,27 @@
 //! queue is full (`Error::ReachedMaxNumberOfRemoteCommands`).
 //!
 //! The caller lends all memory, gives one request at a time and lets nobody else write the tables. Nothing is allocated here.
+//!
+//! For a caller that keeps records of its own, `ConfidentialHart` has the original's transitions, and `MmioRegions` the regions of a lent run.
 #![no_std]
 
 mod answers;
 mod confidential_flow;
 mod confidential_vm;
 pub mod ffi;
+mod lent;
 
 pub use answers::{Error, FlowAnswer, HartLifecycleState, Resumed};
 pub use confidential_flow::{ConfidentialFlow, Effect, effects};
 pub use confidential_vm::{ConfidentialVm, Setup};
+pub use lent::{ConfidentialHart, ConfidentialVmMmioRegion, MmioRegions};
 
 /// The words of a VM's head: n, m, the allowed mask and the number of regions.
 pub const HEAD_WORDS: usize = 4;
 /// The words of a home or a hardware row.
 pub const HART_WORDS: usize = 12;
+/// The registers of a hart's record: a0, a1, mepc, vsatp, mstatus and vsstatus.
+pub const REGISTERS: usize = 6;
 /// The words of a hart's queue: how many commands wait, and 64 places of six words.
 pub const QUEUE_WORDS: usize = 385;
 /// The words of a region: its base and one past its end.
