@@ -15,12 +15,16 @@ maxEnd = 2 ^ 64 - 1
 abbrev pub regionOf : ℕ → ℕ → ConfidentialVmMmioRegion
 regionOf base end = record { base = base; end = end }
 
--- the region of size numbers from start on; where its end is too large, 11 and an empty region
+-- the region of size numbers from base on
+abbrev pub regionFrom : ℕ → ℕ → ConfidentialVmMmioRegion
+regionFrom base size = regionOf base (base + size)
+
+-- the same where its end is not too large; else 11 and an empty region
 unfoldable pub newRegion : ℕ → ℕ → NewRegion
 newRegion start size =
     pick (ltb maxEnd (start + size))
     (record { number = endTooLarge; region = regionOf 0 0 })
-    (record { number = done; region = regionOf start (start + size) })
+    (record { number = done; region = regionFrom start size })
 
 -- each base is below the other's end
 abbrev pub overlaps : ConfidentialVmMmioRegion → ConfidentialVmMmioRegion → Bool

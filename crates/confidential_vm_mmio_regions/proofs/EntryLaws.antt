@@ -12,7 +12,7 @@ use Rattle.error.specs.declared.Error.the-variants.{ReachedMaxNumberOfMmioRegio
 use Rattle.table_rows.proofs.PickLaws.{yes, no, by-test, not-no}
 use Rattle.confidential_vm_mmio_region.specs.declared.ConfidentialVmMmioRegion.{ConfidentialVmMmioRegion}
 use Rattle.confidential_vm_mmio_region.specs.declared.NewRegion.{NewRegion}
-use Rattle.confidential_vm_mmio_region.specs.Region.{maxEnd, newRegion}
+use Rattle.confidential_vm_mmio_region.specs.Region.{maxEnd, newRegion, regionFrom}
 use Rattle.mmio_regions.specs.declared.Added.{Added}
 use Rattle.mmio_regions.specs.Regions.{maxRegions, anyOverlaps, anyContains, addNumber, withAdded}
 use Rattle.mmio_regions.specs.Table as regions
@@ -21,7 +21,7 @@ use Rattle.mmio_regions.proofs.TableLaws.{laid-same}
 use Rattle.monitor_requests.specs.declared.Answer.the-variants.{Refused, Done, Flag}
 use Rattle.monitor_requests.specs.declared.Request.the-variants.{Add, Remove, Defined}
 use Rattle.monitor_requests.specs.Tables.{Tables, tables, regionsWord, regionCount, regionsOf, sound, Sized}
-use Rattle.monitor_requests.specs.Requests.{outcome, regionFrom, tests, effect, performed}
+use Rattle.monitor_requests.specs.Requests.{outcome, tests, effect, performed}
 
 -- ---- the region that is made
 

@@ -52,7 +52,8 @@ use Rattle.monitor_requests.specs.Tables.{
   regionsOf,
   sound,
 }
-use Rattle.monitor_requests.specs.Requests.{regionFrom, withHardware, withHeld, withQueues, withRegions, receives, broadcast, tests, effect}
+use Rattle.confidential_vm_mmio_region.specs.Region.{regionFrom}
+use Rattle.monitor_requests.specs.Requests.{withHardware, withHeld, withQueues, withRegions, receives, broadcast, tests, effect}
 use Rattle.monitor_requests.proofs.JudgedLaws.{Passed}
 use Rattle.monitor_requests.proofs.SoundLaws.{sound-sized, hardware-formed, held-names}
 use Rattle.monitor_requests.proofs.BroadcastLaws.{refusesAt, refusing-does, refusing-first, refuser, delivers, queue-after, answer-is, send-known}

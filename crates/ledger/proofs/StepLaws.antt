@@ -37,8 +37,9 @@ use Rattle.monitor_requests.specs.declared.Answer.{Answer}
 use Rattle.monitor_requests.specs.declared.Answer.the-variants.{Done}
 use Rattle.monitor_requests.specs.Answers.{given}
 use Rattle.monitor_requests.specs.Tables.{Tables, harts, hardwareHarts, allowed, homeHart, regionsOf, sound}
+use Rattle.confidential_vm_mmio_region.specs.Region.{regionFrom}
 use Rattle.monitor_requests.specs.Requests as requests
-use Rattle.monitor_requests.specs.Requests.{regionFrom, effect}
+use Rattle.monitor_requests.specs.Requests.{effect}
 use Rattle.monitor_requests.proofs.JudgedLaws.{Passed}
 use Rattle.flow_requests.specs.declared.FlowRequest.{FlowRequest}
 use Rattle.flow_requests.specs.declared.FlowRequest.the-variants.{Plain, Broadcast, Process, Resume}

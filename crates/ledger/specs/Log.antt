@@ -11,6 +11,7 @@ use Rattle.confidential_hart_remote_command.specs.declared.ConfidentialHartRemo
 use Rattle.hart_lifecycle_state.specs.Lifecycle.{started, stopped, suspended, poweredOff}
 use Rattle.confidential_hart.specs.Hart.{noOperation}
 use Rattle.confidential_hart.specs.HartStart.{startRegisters, wakeRegisters}
+use Rattle.confidential_vm_mmio_region.specs.Region.{regionFrom}
 use Rattle.monitor_requests.specs.declared.Setup as declared
 use Rattle.monitor_requests.specs.declared.Request.the-variants.{
   Setup,
@@ -33,7 +34,6 @@ use Rattle.monitor_requests.specs.declared.Request.the-variants.{
 use Rattle.monitor_requests.specs.declared.Answer.{Answer}
 use Rattle.monitor_requests.specs.declared.Answer.the-variants.{Refused, Done, Mask, State, Flag, Count, Run, PoweredOff, Operation}
 use Rattle.monitor_requests.specs.Answers.{given}
-use Rattle.monitor_requests.specs.Requests.{regionFrom}
 use Rattle.flow_requests.specs.declared.FlowRequest.{FlowRequest}
 use Rattle.flow_requests.specs.declared.FlowRequest.the-variants.{Plain, Broadcast, Process, Resume}
 

@@ -17,7 +17,7 @@ use Rattle.table_rows.specs.Choice.{pick, every, allZero}
 use Rattle.table_rows.specs.Lists.{allOf}
 use Rattle.table_rows.proofs.PickLaws.{by-test}
 use Rattle.confidential_vm_mmio_region.specs.declared.ConfidentialVmMmioRegion.{ConfidentialVmMmioRegion}
-use Rattle.confidential_vm_mmio_region.specs.Region.{maxEnd, ordered}
+use Rattle.confidential_vm_mmio_region.specs.Region.{maxEnd, ordered, regionFrom}
 use Rattle.mmio_regions.specs.Regions.{maxRegions, anyOverlaps, addNumber, withAdded, withRemoved}
 use Rattle.mmio_regions.specs.Table.{regionWords, wordsOf, regionsSound}
 use Rattle.mmio_regions.specs.Table as table
@@ -44,7 +44,6 @@ use Rattle.lent_mmio_regions.specs.Run.{
   relaid,
   Outcome,
   refused,
-  regionFrom,
   checked,
   added,
   removed,

@@ -12,7 +12,7 @@ use Rattle.error.specs.Error.{done, reachedMaxNumberOfMmioRegions, overlappingM
 use Rattle.table_rows.specs.Choice.{pick}
 use Rattle.table_rows.proofs.PickLaws.{yes, no, by-test, not-yes, not-no}
 use Rattle.confidential_vm_mmio_region.specs.declared.ConfidentialVmMmioRegion.{ConfidentialVmMmioRegion}
-use Rattle.confidential_vm_mmio_region.specs.Region.{maxEnd, newRegion}
+use Rattle.confidential_vm_mmio_region.specs.Region.{maxEnd, newRegion, regionFrom}
 use Rattle.mmio_regions.specs.Regions.{maxRegions, anyOverlaps, anyContains, addNumber, withAdded, withRemoved}
 use Rattle.mmio_region_survey.specs.declared.Changed.{Changed}
 use Rattle.mmio_region_survey.specs.declared.Defined.{Defined}
@@ -28,7 +28,6 @@ use Rattle.lent_mmio_regions.specs.Run.{
   Outcome,
   outcome,
   refused,
-  regionFrom,
   checked,
   added,
   removed,

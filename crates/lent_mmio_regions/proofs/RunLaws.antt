@@ -14,7 +14,7 @@ use Rattle.table_rows.specs.Choice.{pick}
 use Rattle.table_rows.specs.Lists.{allOf}
 use Rattle.table_rows.proofs.PickLaws.{by-pick}
 use Rattle.confidential_vm_mmio_region.specs.declared.ConfidentialVmMmioRegion.{ConfidentialVmMmioRegion}
-use Rattle.confidential_vm_mmio_region.specs.Region.{maxEnd, ordered}
+use Rattle.confidential_vm_mmio_region.specs.Region.{maxEnd, ordered, regionFrom}
 use Rattle.mmio_regions.specs.Regions.{maxRegions, anyOverlaps, addNumber, withAdded, withRemoved}
 use Rattle.mmio_regions.specs.Table.{regionWords, wordsOf, regionsSound}
 use Rattle.mmio_regions.proofs.RegionLaws.{added-few, added-ordered, removed-few, removed-ordered}
@@ -29,7 +29,6 @@ use Rattle.lent_mmio_regions.specs.Run.{
   run,
   relaid,
   Outcome,
-  regionFrom,
   checked,
   added,
   removed,

@@ -8,7 +8,7 @@ use Rattle.error.specs.Error.{done, endTooLarge, tablesNotSound}
 use Rattle.table_rows.specs.Choice.{pick}
 use Rattle.table_rows.specs.Lists.{allOf}
 use Rattle.confidential_vm_mmio_region.specs.declared.ConfidentialVmMmioRegion.{ConfidentialVmMmioRegion}
-use Rattle.confidential_vm_mmio_region.specs.Region.{maxEnd, regionOf, ordered}
+use Rattle.confidential_vm_mmio_region.specs.Region.{maxEnd, regionOf, regionFrom, ordered}
 use Rattle.mmio_regions.specs.Regions.{maxRegions, anyContains, addNumber, withAdded, withRemoved}
 use Rattle.mmio_region_survey.specs.declared.Changed.{Changed}
 use Rattle.mmio_region_survey.specs.declared.Defined.{Defined}
@@ -66,10 +66,6 @@ outcome r records = record { number = r .number; after = run (r .count) records 
 -- a refusal leaves the run as it was
 abbrev pub refused : List ConfidentialVmMmioRegion → ℕ → ℕ → Outcome
 refused records count number = record { number = number; after = run count records }
-
--- the region of size numbers from base on
-abbrev pub regionFrom : ℕ → ℕ → ConfidentialVmMmioRegion
-regionFrom base size = regionOf base (base + size)
 
 -- the checks of every request in their order: 12, judged on the run alone, and then 11
 unfoldable pub checked : {A : Type 0} → (ℕ → A) → List ConfidentialVmMmioRegion → ℕ → ℕ → ℕ → A → A

@@ -13,7 +13,7 @@ use Rattle.table_rows.proofs.PickLaws.{and-both}
 use Rattle.table_rows.proofs.ListLaws.{all-last}
 use Rattle.confidential_hart.specs.Hart.{noVm, theVm}
 use Rattle.confidential_vm_mmio_region.specs.declared.ConfidentialVmMmioRegion.{ConfidentialVmMmioRegion}
-use Rattle.confidential_vm_mmio_region.specs.Region.{ordered}
+use Rattle.confidential_vm_mmio_region.specs.Region.{ordered, regionFrom}
 use Rattle.mmio_regions.specs.Regions.{maxRegions, withRemoved}
 use Rattle.mmio_regions.specs.Table.{regionsSound, laid}
 use Rattle.mmio_regions.proofs.RegionLaws.{removed-few, removed-ordered}
@@ -21,7 +21,7 @@ use Rattle.mmio_regions.proofs.TableLaws.{standing-length}
 use Rattle.mmio_regions.proofs.SoundLaws as regions
 use Rattle.monitor_requests.specs.declared.Request.the-variants.{Allow, Add, Remove}
 use Rattle.monitor_requests.specs.Tables.{Tables, tables, hartsWord, hardwareWord, allowedWord, regionsWord, harts, hardwareHarts, allowed, regionCount, regionsOf, rowSound, sound}
-use Rattle.monitor_requests.specs.Requests.{regionFrom, withRegions, tests, effect, performed}
+use Rattle.monitor_requests.specs.Requests.{withRegions, tests, effect, performed}
 use Rattle.monitor_requests.proofs.JudgedLaws.{effect-sound}
 use Rattle.monitor_requests.proofs.SoundLaws.{Sound, sound-facts, facts-sound}
 

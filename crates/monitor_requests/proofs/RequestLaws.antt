@@ -61,13 +61,13 @@ use Rattle.monitor_requests.specs.Tables.{
   sound,
   Sized,
 }
+use Rattle.confidential_vm_mmio_region.specs.Region.{regionFrom}
 use Rattle.monitor_requests.specs.Requests.{
   Outcome,
   outcome,
   Test,
   judged,
   refusedOn,
-  regionFrom,
   tests,
   withHead,
   withHome,

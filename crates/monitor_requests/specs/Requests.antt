@@ -31,7 +31,7 @@ use Rattle.bits.specs.Bit.{setBit}
 use Rattle.table_rows.specs.Rows.{row, put, rowsOf, over}
 use Rattle.table_rows.specs.Choice.{pick, every}
 use Rattle.confidential_vm_mmio_region.specs.declared.ConfidentialVmMmioRegion.{ConfidentialVmMmioRegion}
-use Rattle.confidential_vm_mmio_region.specs.Region.{maxEnd, regionOf}
+use Rattle.confidential_vm_mmio_region.specs.Region.{maxEnd, regionFrom}
 use Rattle.mmio_regions.specs.Regions.{maxRegions, anyOverlaps, anyContains, withRemoved}
 use Rattle.mmio_regions.specs.Table.{regionWords, laid}
 use Rattle.confidential_hart_remote_command.specs.declared.ConfidentialHartRemoteCommand.{ConfidentialHartRemoteCommand}
@@ -139,10 +139,6 @@ tooLarge base size = refuse EndTooLarge (ltb maxEnd (base + size))
 unfoldable pub refuses : Entry → Bool
 refuses (becomes state) = false
 refuses (refused number) = true
-
--- the region of a base and a size
-abbrev pub regionFrom : ℕ → ℕ → ConfidentialVmMmioRegion
-regionFrom base size = regionOf base (base + size)
 
 -- ---- tests
 
