@@ -55,9 +55,9 @@ extern "C" {
 /* Words of an effect record: the hart's number, and the command's kind, mask, base, start, size and tag. */
 #define OUDRAMENG_EFFECT_WORDS 7
 
-/* Words that `value` must have: in the tables' functions, and in the flow's. */
+/* Words that `value` must have: in the functions that give values, and in those that do commands. */
 #define OUDRAMENG_VALUE_WORDS 4
-#define OUDRAMENG_FLOW_VALUE_WORDS 5
+#define OUDRAMENG_REPLY_VALUE_WORDS 5
 
 /* The numbers that are given back. */
 enum oudrameng_answer {

@@ -22,11 +22,11 @@ static uint64_t hardware[HARDWARE_WORDS];
 static uint64_t queues[QUEUES_WORDS];
 static uint64_t regions[REGIONS_WORDS];
 static uint64_t effects[EFFECTS_WORDS];
-static uint64_t value[OUDRAMENG_FLOW_VALUE_WORDS];
+static uint64_t value[OUDRAMENG_REPLY_VALUE_WORDS];
 
 /* The slices as every function takes them: first the tables, and then what it writes beside them. */
 #define TABLES head, OUDRAMENG_HEAD_WORDS, home, HOME_WORDS, hardware, HARDWARE_WORDS, queues, QUEUES_WORDS, regions, REGIONS_WORDS
-#define VALUE value, OUDRAMENG_FLOW_VALUE_WORDS
+#define VALUE value, OUDRAMENG_REPLY_VALUE_WORDS
 #define EFFECTS effects, EFFECTS_WORDS
 
 /* The effect records that were written, a line each. */

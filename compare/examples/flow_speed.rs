@@ -4,7 +4,7 @@ use compare::tables::Tables;
 use compare::timing::{ratio, ratio_on};
 use compare::{EFFECT_WORDS, HART_WORDS, QUEUE_WORDS};
 use oracle::core::control_data::HardwareHart;
-use oudrameng::{ConfidentialHartId, ConfidentialHartRemoteCommand, Error, FlowAnswer, HardwareHartId, ResumableOperation, Resumed};
+use oudrameng::{ConfidentialHartId, ConfidentialHartRemoteCommand, Error, HardwareHartId, Reply, ResumableOperation, Resumed};
 use plain::{are_sound, original_command, started};
 use std::hint::black_box;
 
@@ -24,9 +24,9 @@ struct Lent {
 }
 
 /// Process as one would write it.
-fn process(lent: &mut Lent, k: usize) -> FlowAnswer<u64> {
+fn process(lent: &mut Lent, k: usize) -> Reply<u64> {
     let Lent { tables, effects } = lent;
-    let refused = |error| FlowAnswer { did: 0, answer: Err(error) };
+    let refused = |error| Reply { did: 0, answer: Err(error) };
     if !are_sound(tables) {
         return refused(Error::TablesNotSound);
     }
@@ -50,12 +50,12 @@ fn process(lent: &mut Lent, k: usize) -> FlowAnswer<u64> {
         }
     }
     queue.fill(0);
-    FlowAnswer { did: count as usize, answer: Ok(count) }
+    Reply { did: count as usize, answer: Ok(count) }
 }
 
 /// Resume as one would write it.
-fn resume(lent: &mut Lent, k: usize) -> FlowAnswer<Resumed> {
-    let FlowAnswer { did, answer } = process(lent, k);
+fn resume(lent: &mut Lent, k: usize) -> Reply<Resumed> {
+    let Reply { did, answer } = process(lent, k);
     let resumed = answer.map(|_| {
         let held = &mut lent.tables.hardware[k * HART_WORDS..][..HART_WORDS];
         if held[2] == 3 {
@@ -68,7 +68,7 @@ fn resume(lent: &mut Lent, k: usize) -> FlowAnswer<Resumed> {
             Resumed::Run
         }
     });
-    FlowAnswer { did, answer: resumed }
+    Reply { did, answer: resumed }
 }
 
 /// Hardware hart 1 holds the last hart, which waits for an operation. So many commands wait for it, and none for the others.
@@ -85,13 +85,13 @@ fn held(n: usize, m: usize, waiting: usize) -> Lent {
 }
 
 /// Our process.
-fn our_process(lent: &mut Lent) -> FlowAnswer<u64> {
+fn our_process(lent: &mut Lent) -> Reply<u64> {
     let Lent { tables, effects } = black_box(lent);
     tables.lend().confidential_flow(HardwareHartId(K as u64)).process_confidential_hart_remote_commands(effects)
 }
 
 /// Our resume.
-fn our_resume(lent: &mut Lent) -> FlowAnswer<Resumed> {
+fn our_resume(lent: &mut Lent) -> Reply<Resumed> {
     let Lent { tables, effects } = black_box(lent);
     tables.lend().confidential_flow(HardwareHartId(K as u64)).resume_confidential_hart_execution(effects)
 }
@@ -107,7 +107,7 @@ fn time_queued(n: usize, m: usize, waiting: usize) {
         lent.tables.queues[queue.clone()].copy_from_slice(&start.tables.queues[queue.clone()]);
     };
     let size = format!("{waiting} commands, {n} harts");
-    let processed = FlowAnswer { did: waiting, answer: Ok(waiting as u64) };
+    let processed = Reply { did: waiting, answer: Ok(waiting as u64) };
     ratio_on(
         &format!("process, {size}"),
         [&mut ours, &mut rust],
@@ -116,7 +116,7 @@ fn time_queued(n: usize, m: usize, waiting: usize) {
         |lent| assert_eq!(process(black_box(lent), black_box(K)), processed),
     );
     assert!(ours == rust);
-    let resumed = FlowAnswer { did: waiting, answer: Ok(Resumed::Operation(OPERATION)) };
+    let resumed = Reply { did: waiting, answer: Ok(Resumed::Operation(OPERATION)) };
     ratio_on(
         &format!("resume, {size}"),
         [&mut ours, &mut rust],
@@ -151,7 +151,7 @@ fn time_broadcast(n: usize, m: usize, waiting: usize) {
         || {
             let mut vm = black_box(&mut ours).lend();
             let given = vm.confidential_flow(on).broadcast_remote_command(black_box(&last), black_box(did));
-            assert_eq!(given, FlowAnswer { did: 1, answer: Ok(0) });
+            assert_eq!(given, Reply { did: 1, answer: Ok(0) });
         },
         || {
             assert!(are_sound(black_box(&words)));

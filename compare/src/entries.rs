@@ -1,10 +1,8 @@
 //! The proved entries, each as one function of a request on lent words: the C functions themselves, and the safe package over them.
 use crate::tables::Tables;
-use crate::{EFFECT_WORDS, FLOW_VALUE_WORDS, VALUE_WORDS};
+use crate::{EFFECT_WORDS, REPLY_VALUE_WORDS, VALUE_WORDS};
 use oracle::driver::{Command, Request};
-use oudrameng::{
-    ConfidentialHartId, ConfidentialHartRemoteCommand, Error, FlowAnswer, HardwareHartId, ResumableOperation, Resumed, Setup, ffi,
-};
+use oudrameng::{ConfidentialHartId, ConfidentialHartRemoteCommand, Error, HardwareHartId, Reply, ResumableOperation, Resumed, Setup, ffi};
 
 /// A request on tables, room for effects and room for values; it gives the number.
 pub type Entry = fn(&mut Tables, &Request, &mut [u64], &mut [u64]) -> u64;
@@ -21,7 +19,7 @@ pub fn records_asked(request: &Request) -> usize {
 /// For how many words a request asks for its values: none where its answer has no value.
 pub fn value_words_asked(request: &Request) -> usize {
     match request {
-        Request::Broadcast { .. } | Request::Process { .. } | Request::Resume { .. } => FLOW_VALUE_WORDS,
+        Request::Broadcast { .. } | Request::Process { .. } | Request::Resume { .. } => REPLY_VALUE_WORDS,
         Request::Steal { .. } | Request::Status { .. } | Request::Home | Request::Send { .. } | Request::Defined { .. } => VALUE_WORDS,
         _ => 0,
     }
@@ -109,11 +107,11 @@ pub fn by_package(tables: &mut Tables, request: &Request, effects: &mut [u64], v
         }
         Request::Process { hardware_hart } => {
             let given = vm.confidential_flow(on(hardware_hart)).process_confidential_hart_remote_commands(effects);
-            flow_valued(given, effects, value, |count| vec![count])
+            reply_valued(given, effects, value, |count| vec![count])
         }
         Request::Resume { hardware_hart } => {
             let given = vm.confidential_flow(on(hardware_hart)).resume_confidential_hart_execution(effects);
-            flow_valued(given, effects, value, |resumed| match resumed {
+            reply_valued(given, effects, value, |resumed| match resumed {
                 Resumed::Run => vec![0],
                 Resumed::Off => vec![1],
                 Resumed::Operation(operation) => vec![2, operation.kind, operation.x, operation.y],
@@ -121,7 +119,7 @@ pub fn by_package(tables: &mut Tables, request: &Request, effects: &mut [u64], v
         }
         Request::Broadcast { hardware_hart, command } => {
             let given = vm.confidential_flow(on(hardware_hart)).broadcast_remote_command(&remote_command(command), effects);
-            flow_valued(given, effects, value, |mask| vec![mask])
+            reply_valued(given, effects, value, |mask| vec![mask])
         }
         Request::Send { sender, command } => valued(vm.broadcast_remote_command(sender as u64, &remote_command(command)), value),
         Request::Allow { bits } => unvalued(vm.allow_external_interrupt(bits as u64)),
@@ -159,7 +157,7 @@ fn valued(answer: Result<u64, Error>, value: &mut [u64]) -> u64 {
 }
 
 /// Writes how many records were written and then the values. The records are read by the package and written again.
-fn flow_valued<T>(given: FlowAnswer<T>, room: &mut [u64], value: &mut [u64], values: impl FnOnce(T) -> Vec<u64>) -> u64 {
+fn reply_valued<T>(given: Reply<T>, room: &mut [u64], value: &mut [u64], values: impl FnOnce(T) -> Vec<u64>) -> u64 {
     let records: Vec<_> = oudrameng::effects(room, given.did).collect();
     assert_eq!(records.len(), given.did, "the package gives as many records as were written");
     for (place, effect) in room.as_chunks_mut::<EFFECT_WORDS>().0.iter_mut().zip(records) {

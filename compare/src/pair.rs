@@ -5,7 +5,7 @@ use crate::log::{Log, Note};
 use crate::original::{read_words, write_words};
 use crate::seen::{Seen, kind};
 use crate::tables::{Table, Tables, difference};
-use crate::{EFFECT_WORDS, FLOW_VALUE_WORDS};
+use crate::{EFFECT_WORDS, REPLY_VALUE_WORDS};
 use oracle::driver::{self, Answer, Command, Machine, Request};
 use oracle::effects::Effect;
 use std::cell::Cell;
@@ -14,7 +14,7 @@ use std::fmt::{Display, Formatter};
 /// Room for 64 effect records, and a few words more that nobody may write.
 pub const ROOM: usize = 64 * EFFECT_WORDS + 3;
 /// The most words that are lent for values: one more than are asked.
-pub const MOST_VALUE_WORDS: usize = FLOW_VALUE_WORDS + 1;
+pub const MOST_VALUE_WORDS: usize = REPLY_VALUE_WORDS + 1;
 
 /// A request, and how many words are lent for its effects and its values.
 #[derive(Clone, PartialEq, Debug)]

@@ -5,7 +5,7 @@ use compare::entries::{Entry, by_c, by_package};
 use compare::pair::{Ask, Given, MOST_VALUE_WORDS, ROOM, Step};
 use compare::runs::Run;
 use compare::tables::{TABLES, Table, Tables};
-use compare::{EFFECT_WORDS, FLOW_VALUE_WORDS, MOST_REGIONS, VALUE_WORDS};
+use compare::{EFFECT_WORDS, MOST_REGIONS, REPLY_VALUE_WORDS, VALUE_WORDS};
 use oracle::driver::{Command, Random, Request};
 
 const ENTRIES: [Entry; 2] = [by_c, by_package];
@@ -199,16 +199,16 @@ fn too_little_room_for_values_is_13_before_all_else_and_changes_nothing() {
         Request::Process { hardware_hart: 2 },
         Request::Resume { hardware_hart: 1 },
     ];
-    let requests = of_tables.map(|request| (VALUE_WORDS, request)).into_iter().chain(of_flow.map(|request| (FLOW_VALUE_WORDS, request)));
+    let requests = of_tables.map(|request| (VALUE_WORDS, request)).into_iter().chain(of_flow.map(|request| (REPLY_VALUE_WORDS, request)));
     let sound = holding(by_c, 3, 2, 1).tables().clone();
     let mut damaged = sound.clone();
     damaged.head[0] = 0;
     for (asked, request) in requests {
         for before in [&sound, &damaged] {
             for (value_words, effects_words) in (0..asked).flat_map(|words| EFFECTS_WORDS.map(|effects| (words, effects))) {
-                let (mut tables, mut effects, mut value) = (before.clone(), [9; ROOM], [9; FLOW_VALUE_WORDS]);
+                let (mut tables, mut effects, mut value) = (before.clone(), [9; ROOM], [9; REPLY_VALUE_WORDS]);
                 let number = by_c(&mut tables, &request, &mut effects[..effects_words], &mut value[..value_words]);
-                assert_eq!((number, value), (13, [9; FLOW_VALUE_WORDS]), "{request:?} with {value_words} words for values");
+                assert_eq!((number, value), (13, [9; REPLY_VALUE_WORDS]), "{request:?} with {value_words} words for values");
                 assert!(tables == *before && effects == [9; ROOM], "{request:?} with {value_words} words for values");
             }
         }

@@ -1,7 +1,7 @@
 //! Document 01's P1 on lent tables: a VM of two harts and two hardware harts. It prints what the trace program prints.
 use oudrameng::{
-    ConfidentialHartId, ConfidentialHartRemoteCommand, ConfidentialVm, EFFECT_WORDS, Error, FlowAnswer, HART_WORDS, HEAD_WORDS,
-    HardwareHartId, MOST_COMMANDS, MOST_REGIONS, QUEUE_WORDS, REGION_WORDS, Resumed, Setup, effects,
+    ConfidentialHartId, ConfidentialHartRemoteCommand, ConfidentialVm, EFFECT_WORDS, Error, HART_WORDS, HEAD_WORDS, HardwareHartId,
+    MOST_COMMANDS, MOST_REGIONS, QUEUE_WORDS, REGION_WORDS, Reply, Resumed, Setup, effects,
 };
 
 const HARTS: usize = 2;
@@ -17,7 +17,7 @@ fn print(answer: Result<Option<u64>, Error>) {
 }
 
 /// Prints the effects before an answer.
-fn print_effects<T>(given: FlowAnswer<T>, room: &[u64]) -> Result<T, Error> {
+fn print_effects<T>(given: Reply<T>, room: &[u64]) -> Result<T, Error> {
     for effect in effects(room, given.did) {
         let [kind, mask, base, start, size, tag] = effect.command.numbers();
         println!("did\t{}\t{kind}\t{mask}\t{base}\t{start}\t{size}\t{tag}", effect.hart.0);

@@ -101,7 +101,7 @@ impl Resumed {
 /// queue, so the records are looked at before the answer.
 #[must_use]
 #[derive(Clone, Copy, PartialEq, Eq, Debug)]
-pub struct FlowAnswer<T> {
+pub struct Reply<T> {
     pub did: usize,
     pub answer: Result<T, Error>,
 }

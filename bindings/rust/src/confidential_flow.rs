@@ -2,7 +2,7 @@
 use crate::answers::done;
 use crate::confidential_vm::call;
 use crate::{
-    ConfidentialHartId, ConfidentialHartRemoteCommand, ConfidentialVm, EFFECT_WORDS, Error, FLOW_VALUE_WORDS, FlowAnswer, HardwareHartId,
+    ConfidentialHartId, ConfidentialHartRemoteCommand, ConfidentialVm, EFFECT_WORDS, Error, HardwareHartId, REPLY_VALUE_WORDS, Reply,
     ResumableOperation, Resumed,
 };
 
@@ -52,32 +52,32 @@ impl ConfidentialFlow<'_> {
 
     /// Sends a command. The hart itself does it first if it is selected: that is one effect record. The answer is the mask of hardware harts to
     /// interrupt.
-    pub fn broadcast_remote_command(&mut self, command: &ConfidentialHartRemoteCommand, effects: &mut [u64]) -> FlowAnswer<u64> {
+    pub fn broadcast_remote_command(&mut self, command: &ConfidentialHartRemoteCommand, effects: &mut [u64]) -> Reply<u64> {
         let Self { on, vm } = self;
-        let mut value = [0; FLOW_VALUE_WORDS];
+        let mut value = [0; REPLY_VALUE_WORDS];
         let [kind, mask, base, start, size, tag] = command.numbers();
         let number = call!(oudrameng_flow_broadcast_remote_command(on.0, kind, mask, base, start, size, tag;
             const vm.head, const vm.home, mut vm.hardware, mut vm.queues, const vm.regions, mut effects, mut value));
-        FlowAnswer { did: value[0] as usize, answer: done(number).map(|()| value[1]) }
+        Reply { did: value[0] as usize, answer: done(number).map(|()| value[1]) }
     }
 
     /// Does every command that waits for the hart, an effect record for each, and gives how many they were. It asks for room for 64 records.
-    pub fn process_confidential_hart_remote_commands(&mut self, effects: &mut [u64]) -> FlowAnswer<u64> {
+    pub fn process_confidential_hart_remote_commands(&mut self, effects: &mut [u64]) -> Reply<u64> {
         let Self { on, vm } = self;
-        let mut value = [0; FLOW_VALUE_WORDS];
+        let mut value = [0; REPLY_VALUE_WORDS];
         let number = call!(oudrameng_process_confidential_hart_remote_commands(on.0;
             const vm.head, const vm.home, mut vm.hardware, mut vm.queues, const vm.regions, mut effects, mut value));
-        FlowAnswer { did: value[0] as usize, answer: done(number).map(|()| value[1]) }
+        Reply { did: value[0] as usize, answer: done(number).map(|()| value[1]) }
     }
 
     /// Does every command that waits for the hart, then says how it goes on, and takes the operation that it goes on with.
-    pub fn resume_confidential_hart_execution(&mut self, effects: &mut [u64]) -> FlowAnswer<Resumed> {
+    pub fn resume_confidential_hart_execution(&mut self, effects: &mut [u64]) -> Reply<Resumed> {
         let Self { on, vm } = self;
-        let mut value = [0; FLOW_VALUE_WORDS];
+        let mut value = [0; REPLY_VALUE_WORDS];
         let number = call!(oudrameng_resume_confidential_hart_execution(on.0;
             const vm.head, const vm.home, mut vm.hardware, mut vm.queues, const vm.regions, mut effects, mut value));
         let [did, values @ ..] = value;
-        FlowAnswer { did: did as usize, answer: done(number).map(|()| Resumed::of_values(values)) }
+        Reply { did: did as usize, answer: done(number).map(|()| Resumed::of_values(values)) }
     }
 }
 
@@ -88,7 +88,7 @@ pub struct Effect {
     pub command: ConfidentialHartRemoteCommand,
 }
 
-/// The first effect records of a room, as many as a `FlowAnswer` says; no more than the room has.
+/// The first effect records of a room, as many as a `Reply` says; no more than the room has.
 pub fn effects(room: &[u64], did: usize) -> impl Iterator<Item = Effect> {
     room.as_chunks::<EFFECT_WORDS>().0.iter().take(did).map(|&[hart, ref command @ ..]| Effect {
         hart: ConfidentialHartId(hart),

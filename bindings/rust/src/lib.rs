@@ -13,7 +13,7 @@ mod confidential_vm;
 pub mod ffi;
 mod lent;
 
-pub use answers::{Error, FlowAnswer, HartLifecycleState, Resumed};
+pub use answers::{Error, HartLifecycleState, Reply, Resumed};
 pub use confidential_flow::{ConfidentialFlow, Effect, effects};
 pub use confidential_vm::{ConfidentialVm, Setup};
 pub use lent::{ConfidentialHart, ConfidentialVmMmioRegion, MmioRegions};
@@ -41,7 +41,7 @@ pub const MOST_REGIONS: usize = 1024;
 /// The words that a function of `ffi` asks for the values of its answer.
 pub const VALUE_WORDS: usize = 4;
 /// The words that a function of `ffi` which does commands asks for how many it did and the values of its answer.
-pub const FLOW_VALUE_WORDS: usize = 5;
+pub const REPLY_VALUE_WORDS: usize = 5;
 
 /// A confidential hart's number.
 #[derive(Clone, Copy, PartialEq, Eq, Debug)]

@@ -5,20 +5,20 @@
 // The flow's hart is the one that a hardware hart holds in the lent tables. Each entry takes any numbers and any tables; the function above it
 // is for sound tables.
 ghost use mathlib.Core.Path.{_≡_};
+ghost use mathlib.Core.List.{[]};
 ghost use mathlib.Core.Bool.{true};
 ghost use Rattle.confidential_hart.specs.Hart.{isOperation};
-ghost use Rattle.monitor_requests.specs.declared.Request.the-variants.{Await};
-ghost use Rattle.monitor_requests.specs.Tables.{tables, sound, Sized};
-ghost use Rattle.monitor_requests.specs.Requests.{outcome, performed};
-ghost use Rattle.flow_requests.specs.declared.FlowRequest.the-variants.{Resume};
-ghost use Rattle.flow_requests.specs.FlowRequests.{answered, flowPerformed};
+ghost use Rattle.monitor_requests.specs.declared.Request.the-variants.{Await, Resume};
+ghost use Rattle.monitor_requests.specs.Tables.{sound, Sized};
+ghost use Rattle.monitor_requests.specs.LentTables.{lent, before, after};
+ghost use Rattle.monitor_requests.specs.Requests.{answering, performed, replied};
 use confidential_hart::HardwareHartId;
 use confidential_hart::LAST_OPERATION;
 use confidential_hart::NO_OPERATION;
 use error::Error;
-use flow_requests::FlowAnswer;
 use monitor_requests::Answer;
 use monitor_requests::HARDWARE_WORD;
+use monitor_requests::Reply;
 
 // Whether a hart can wait for an operation of this kind.
 fn is_operation(kind: u64) -> bool
@@ -39,8 +39,9 @@ fn await_operation(
     queues: &[u64],
     regions: &[u64],
 ) -> Answer
-    requires { ⌜ (Sized (tables (now head) (now home) (now hardware) (now queues) (now regions))) × (sound (tables (now head) (now home) (now hardware) (now queues) (now regions)) ≡ true) ⌝ }
-    ensures { λ r. ⌜ outcome r (tables (now (head .entry)) (now (home .entry)) (now (hardware .exit)) (now (queues .entry)) (now (regions .entry))) ≡ performed (Await on kind x y) (tables (now (head .entry)) (now (home .entry)) (now (hardware .entry)) (now (queues .entry)) (now (regions .entry))) ⌝ }
+    requires { ⌜ (Sized (lent head home hardware queues regions)) × (sound (lent head home hardware queues regions) ≡ true) ⌝ }
+    ensures { λ r. ⌜ answering r (after head home hardware queues regions) []
+        ≡ performed (Await on kind x y) (before head home hardware queues regions) [] ⌝ }
 {
     let k = on.0 as usize;
     let unknown = !is_operation(kind);
@@ -75,7 +76,8 @@ pub fn set_resumable_operation(
     queues: &[u64],
     regions: &[u64],
 ) -> Answer
-    ensures { λ r. ⌜ outcome r (tables (now (head .entry)) (now (home .entry)) (now (hardware .exit)) (now (queues .entry)) (now (regions .entry))) ≡ performed (Await on kind x y) (tables (now (head .entry)) (now (home .entry)) (now (hardware .entry)) (now (queues .entry)) (now (regions .entry))) ⌝ }
+    ensures { λ r. ⌜ answering r (after head home hardware queues regions) []
+        ≡ performed (Await on kind x y) (before head home hardware queues regions) [] ⌝ }
 {
     let unsound = !sound_tables::are_tables_sound(head, home, hardware, queues, regions);
     if unsound {
@@ -93,9 +95,10 @@ fn resume(
     queues: &mut [u64],
     regions: &[u64],
     effects: &mut [u64],
-) -> FlowAnswer
-    requires { ⌜ (Sized (tables (now head) (now home) (now hardware) (now queues) (now regions))) × (sound (tables (now head) (now home) (now hardware) (now queues) (now regions)) ≡ true) ⌝ }
-    ensures { λ r. ⌜ answered r (tables (now (head .entry)) (now (home .entry)) (now (hardware .exit)) (now (queues .exit)) (now (regions .entry))) (now (effects .exit)) ≡ flowPerformed (Resume on) (tables (now (head .entry)) (now (home .entry)) (now (hardware .entry)) (now (queues .entry)) (now (regions .entry))) (now (effects .entry)) ⌝ }
+) -> Reply
+    requires { ⌜ (Sized (lent head home hardware queues regions)) × (sound (lent head home hardware queues regions) ≡ true) ⌝ }
+    ensures { λ r. ⌜ replied r (after head home hardware queues regions) (now (effects .exit))
+        ≡ performed (Resume on) (before head home hardware queues regions) (now (effects .entry)) ⌝ }
 {
     let done = confidential_flow_remote_commands::process(
         on,
@@ -110,7 +113,7 @@ fn resume(
     match counted {
         Answer::Count(_) => {
             let answer = held_hart::go_on(hardware, on.0 as usize);
-            FlowAnswer {
+            Reply {
                 answer,
                 did: done.did,
             }
@@ -129,12 +132,13 @@ pub fn resume_confidential_hart_execution(
     queues: &mut [u64],
     regions: &[u64],
     effects: &mut [u64],
-) -> FlowAnswer
-    ensures { λ r. ⌜ answered r (tables (now (head .entry)) (now (home .entry)) (now (hardware .exit)) (now (queues .exit)) (now (regions .entry))) (now (effects .exit)) ≡ flowPerformed (Resume on) (tables (now (head .entry)) (now (home .entry)) (now (hardware .entry)) (now (queues .entry)) (now (regions .entry))) (now (effects .entry)) ⌝ }
+) -> Reply
+    ensures { λ r. ⌜ replied r (after head home hardware queues regions) (now (effects .exit))
+        ≡ performed (Resume on) (before head home hardware queues regions) (now (effects .entry)) ⌝ }
 {
     let unsound = !sound_tables::are_tables_sound(head, home, hardware, queues, regions);
     if unsound {
-        return FlowAnswer::refused(Error::TablesNotSound);
+        return Reply::refused(Error::TablesNotSound);
     }
     resume(on, head, home, hardware, queues, regions, effects)
 }

@@ -4,10 +4,12 @@
 // Changed: ported to Rattle from the lifecycle transitions of confidential_flow/finite_state_machine.rs. The flow's hart is the one that a
 // hardware hart holds in the lent tables. Each entry takes any numbers and any tables; the function above it is for sound tables.
 ghost use mathlib.Core.Path.{_≡_};
+ghost use mathlib.Core.List.{[]};
 ghost use mathlib.Core.Bool.{true};
 ghost use Rattle.monitor_requests.specs.declared.Request.the-variants.{Suspend, Stop, Wake, Off};
-ghost use Rattle.monitor_requests.specs.Tables.{tables, sound, Sized};
-ghost use Rattle.monitor_requests.specs.Requests.{outcome, performed};
+ghost use Rattle.monitor_requests.specs.Tables.{sound, Sized};
+ghost use Rattle.monitor_requests.specs.LentTables.{lent, before, after};
+ghost use Rattle.monitor_requests.specs.Requests.{answering, performed};
 use confidential_hart::HardwareHartId;
 use error::Error;
 use monitor_requests::Answer;
@@ -22,8 +24,9 @@ fn suspend(
     queues: &[u64],
     regions: &[u64],
 ) -> Answer
-    requires { ⌜ (Sized (tables (now head) (now home) (now hardware) (now queues) (now regions))) × (sound (tables (now head) (now home) (now hardware) (now queues) (now regions)) ≡ true) ⌝ }
-    ensures { λ r. ⌜ outcome r (tables (now (head .entry)) (now (home .entry)) (now (hardware .exit)) (now (queues .entry)) (now (regions .entry))) ≡ performed (Suspend on) (tables (now (head .entry)) (now (home .entry)) (now (hardware .entry)) (now (queues .entry)) (now (regions .entry))) ⌝ }
+    requires { ⌜ (Sized (lent head home hardware queues regions)) × (sound (lent head home hardware queues regions) ≡ true) ⌝ }
+    ensures { λ r. ⌜ answering r (after head home hardware queues regions) []
+        ≡ performed (Suspend on) (before head home hardware queues regions) [] ⌝ }
 {
     let k = on.0 as usize;
     if head[HARDWARE_WORD] <= on.0 {
@@ -50,7 +53,8 @@ pub fn suspend_confidential_hart(
     queues: &[u64],
     regions: &[u64],
 ) -> Answer
-    ensures { λ r. ⌜ outcome r (tables (now (head .entry)) (now (home .entry)) (now (hardware .exit)) (now (queues .entry)) (now (regions .entry))) ≡ performed (Suspend on) (tables (now (head .entry)) (now (home .entry)) (now (hardware .entry)) (now (queues .entry)) (now (regions .entry))) ⌝ }
+    ensures { λ r. ⌜ answering r (after head home hardware queues regions) []
+        ≡ performed (Suspend on) (before head home hardware queues regions) [] ⌝ }
 {
     let unsound = !sound_tables::are_tables_sound(head, home, hardware, queues, regions);
     if unsound {
@@ -68,8 +72,9 @@ fn stop(
     queues: &[u64],
     regions: &[u64],
 ) -> Answer
-    requires { ⌜ (Sized (tables (now head) (now home) (now hardware) (now queues) (now regions))) × (sound (tables (now head) (now home) (now hardware) (now queues) (now regions)) ≡ true) ⌝ }
-    ensures { λ r. ⌜ outcome r (tables (now (head .entry)) (now (home .entry)) (now (hardware .exit)) (now (queues .entry)) (now (regions .entry))) ≡ performed (Stop on) (tables (now (head .entry)) (now (home .entry)) (now (hardware .entry)) (now (queues .entry)) (now (regions .entry))) ⌝ }
+    requires { ⌜ (Sized (lent head home hardware queues regions)) × (sound (lent head home hardware queues regions) ≡ true) ⌝ }
+    ensures { λ r. ⌜ answering r (after head home hardware queues regions) []
+        ≡ performed (Stop on) (before head home hardware queues regions) [] ⌝ }
 {
     let k = on.0 as usize;
     if head[HARDWARE_WORD] <= on.0 {
@@ -96,7 +101,8 @@ pub fn stop_confidential_hart(
     queues: &[u64],
     regions: &[u64],
 ) -> Answer
-    ensures { λ r. ⌜ outcome r (tables (now (head .entry)) (now (home .entry)) (now (hardware .exit)) (now (queues .entry)) (now (regions .entry))) ≡ performed (Stop on) (tables (now (head .entry)) (now (home .entry)) (now (hardware .entry)) (now (queues .entry)) (now (regions .entry))) ⌝ }
+    ensures { λ r. ⌜ answering r (after head home hardware queues regions) []
+        ≡ performed (Stop on) (before head home hardware queues regions) [] ⌝ }
 {
     let unsound = !sound_tables::are_tables_sound(head, home, hardware, queues, regions);
     if unsound {
@@ -116,8 +122,9 @@ fn wake(
     queues: &[u64],
     regions: &[u64],
 ) -> Answer
-    requires { ⌜ (Sized (tables (now head) (now home) (now hardware) (now queues) (now regions))) × (sound (tables (now head) (now home) (now hardware) (now queues) (now regions)) ≡ true) ⌝ }
-    ensures { λ r. ⌜ outcome r (tables (now (head .entry)) (now (home .entry)) (now (hardware .exit)) (now (queues .entry)) (now (regions .entry))) ≡ performed (Wake on address opaque) (tables (now (head .entry)) (now (home .entry)) (now (hardware .entry)) (now (queues .entry)) (now (regions .entry))) ⌝ }
+    requires { ⌜ (Sized (lent head home hardware queues regions)) × (sound (lent head home hardware queues regions) ≡ true) ⌝ }
+    ensures { λ r. ⌜ answering r (after head home hardware queues regions) []
+        ≡ performed (Wake on address opaque) (before head home hardware queues regions) [] ⌝ }
 {
     let k = on.0 as usize;
     if head[HARDWARE_WORD] <= on.0 {
@@ -146,7 +153,8 @@ pub fn resume_confidential_hart(
     queues: &[u64],
     regions: &[u64],
 ) -> Answer
-    ensures { λ r. ⌜ outcome r (tables (now (head .entry)) (now (home .entry)) (now (hardware .exit)) (now (queues .entry)) (now (regions .entry))) ≡ performed (Wake on address opaque) (tables (now (head .entry)) (now (home .entry)) (now (hardware .entry)) (now (queues .entry)) (now (regions .entry))) ⌝ }
+    ensures { λ r. ⌜ answering r (after head home hardware queues regions) []
+        ≡ performed (Wake on address opaque) (before head home hardware queues regions) [] ⌝ }
 {
     let unsound = !sound_tables::are_tables_sound(head, home, hardware, queues, regions);
     if unsound {
@@ -164,8 +172,9 @@ fn off(
     queues: &[u64],
     regions: &[u64],
 ) -> Answer
-    requires { ⌜ (Sized (tables (now head) (now home) (now hardware) (now queues) (now regions))) × (sound (tables (now head) (now home) (now hardware) (now queues) (now regions)) ≡ true) ⌝ }
-    ensures { λ r. ⌜ outcome r (tables (now (head .entry)) (now (home .entry)) (now (hardware .exit)) (now (queues .entry)) (now (regions .entry))) ≡ performed (Off on) (tables (now (head .entry)) (now (home .entry)) (now (hardware .entry)) (now (queues .entry)) (now (regions .entry))) ⌝ }
+    requires { ⌜ (Sized (lent head home hardware queues regions)) × (sound (lent head home hardware queues regions) ≡ true) ⌝ }
+    ensures { λ r. ⌜ answering r (after head home hardware queues regions) []
+        ≡ performed (Off on) (before head home hardware queues regions) [] ⌝ }
 {
     let k = on.0 as usize;
     if head[HARDWARE_WORD] <= on.0 {
@@ -189,7 +198,8 @@ pub fn shutdown_confidential_hart(
     queues: &[u64],
     regions: &[u64],
 ) -> Answer
-    ensures { λ r. ⌜ outcome r (tables (now (head .entry)) (now (home .entry)) (now (hardware .exit)) (now (queues .entry)) (now (regions .entry))) ≡ performed (Off on) (tables (now (head .entry)) (now (home .entry)) (now (hardware .entry)) (now (queues .entry)) (now (regions .entry))) ⌝ }
+    ensures { λ r. ⌜ answering r (after head home hardware queues regions) []
+        ≡ performed (Off on) (before head home hardware queues regions) [] ⌝ }
 {
     let unsound = !sound_tables::are_tables_sound(head, home, hardware, queues, regions);
     if unsound {

@@ -5,16 +5,17 @@
 // Each entry takes any numbers and any tables; the function above it is for sound tables.
 ghost use mathlib.Core.Path.{_≡_};
 ghost use mathlib.Core.Bool.{true};
-ghost use Rattle.monitor_requests.specs.Tables.{tables, sound, Sized};
-ghost use Rattle.flow_requests.specs.declared.FlowRequest.the-variants.{Broadcast, Process};
-ghost use Rattle.flow_requests.specs.FlowRequests.{answered, flowPerformed};
+ghost use Rattle.monitor_requests.specs.Tables.{sound, Sized};
+ghost use Rattle.monitor_requests.specs.LentTables.{lent, before, after};
+ghost use Rattle.monitor_requests.specs.declared.Request.the-variants.{Broadcast, Process};
+ghost use Rattle.monitor_requests.specs.Requests.{replied, performed};
 use confidential_hart::HardwareHartId;
 use confidential_hart_remote_command::ConfidentialHartRemoteCommand;
 use effects::EFFECT_WORDS;
 use error::Error;
-use flow_requests::FlowAnswer;
 use monitor_requests::Answer;
 use monitor_requests::HARDWARE_WORD;
+use monitor_requests::Reply;
 use remote_commands::MAX_NUMBER_OF_COMMANDS;
 
 // The tests of a broadcast in their order. Then the sender does the command if it is selected, and the tables broadcast it.
@@ -27,24 +28,25 @@ fn broadcast(
     queues: &mut [u64],
     regions: &[u64],
     effects: &mut [u64],
-) -> FlowAnswer
-    requires { ⌜ (Sized (tables (now head) (now home) (now hardware) (now queues) (now regions))) × (sound (tables (now head) (now home) (now hardware) (now queues) (now regions)) ≡ true) ⌝ }
-    ensures { λ r. ⌜ answered r (tables (now (head .entry)) (now (home .entry)) (now (hardware .exit)) (now (queues .exit)) (now (regions .entry))) (now (effects .exit)) ≡ flowPerformed (Broadcast on c) (tables (now (head .entry)) (now (home .entry)) (now (hardware .entry)) (now (queues .entry)) (now (regions .entry))) (now (effects .entry)) ⌝ }
+) -> Reply
+    requires { ⌜ (Sized (lent head home hardware queues regions)) × (sound (lent head home hardware queues regions) ≡ true) ⌝ }
+    ensures { λ r. ⌜ replied r (after head home hardware queues regions) (now (effects .exit))
+        ≡ performed (Broadcast on c) (before head home hardware queues regions) (now (effects .entry)) ⌝ }
 {
     let k = on.0 as usize;
     if effects.len() < EFFECT_WORDS {
-        return FlowAnswer::refused(Error::RoomTooShort);
+        return Reply::refused(Error::RoomTooShort);
     }
     let unknown = !c.is_well_formed();
     if unknown {
-        return FlowAnswer::refused(Error::UnknownKind);
+        return Reply::refused(Error::UnknownKind);
     }
     if head[HARDWARE_WORD] <= on.0 {
-        return FlowAnswer::refused(Error::NoSuchHardwareHart);
+        return Reply::refused(Error::NoSuchHardwareHart);
     }
     let idle = hart_tables::is_dummy(hardware, k);
     if idle {
-        return FlowAnswer::refused(Error::HardwareHartIdle);
+        return Reply::refused(Error::HardwareHartIdle);
     }
     let hart = hart_tables::id(hardware, k);
     let did = held_hart::execute_own(c, hart, hardware, k, effects);
@@ -57,7 +59,7 @@ fn broadcast(
         queues,
         regions,
     );
-    FlowAnswer { answer, did }
+    Reply { answer, did }
 }
 
 // Sends a command from the hart that a hardware hart holds. If the command selects its sender, the sender first does it, which stands even if a
@@ -71,12 +73,13 @@ pub fn broadcast_remote_command(
     queues: &mut [u64],
     regions: &[u64],
     effects: &mut [u64],
-) -> FlowAnswer
-    ensures { λ r. ⌜ answered r (tables (now (head .entry)) (now (home .entry)) (now (hardware .exit)) (now (queues .exit)) (now (regions .entry))) (now (effects .exit)) ≡ flowPerformed (Broadcast on c) (tables (now (head .entry)) (now (home .entry)) (now (hardware .entry)) (now (queues .entry)) (now (regions .entry))) (now (effects .entry)) ⌝ }
+) -> Reply
+    ensures { λ r. ⌜ replied r (after head home hardware queues regions) (now (effects .exit))
+        ≡ performed (Broadcast on c) (before head home hardware queues regions) (now (effects .entry)) ⌝ }
 {
     let unsound = !sound_tables::are_tables_sound(head, home, hardware, queues, regions);
     if unsound {
-        return FlowAnswer::refused(Error::TablesNotSound);
+        return Reply::refused(Error::TablesNotSound);
     }
     broadcast(on, c, head, home, hardware, queues, regions, effects)
 }
@@ -90,24 +93,25 @@ pub fn process(
     queues: &mut [u64],
     regions: &[u64],
     effects: &mut [u64],
-) -> FlowAnswer
-    requires { ⌜ (Sized (tables (now head) (now home) (now hardware) (now queues) (now regions))) × (sound (tables (now head) (now home) (now hardware) (now queues) (now regions)) ≡ true) ⌝ }
-    ensures { λ r. ⌜ answered r (tables (now (head .entry)) (now (home .entry)) (now (hardware .exit)) (now (queues .exit)) (now (regions .entry))) (now (effects .exit)) ≡ flowPerformed (Process on) (tables (now (head .entry)) (now (home .entry)) (now (hardware .entry)) (now (queues .entry)) (now (regions .entry))) (now (effects .entry)) ⌝ }
+) -> Reply
+    requires { ⌜ (Sized (lent head home hardware queues regions)) × (sound (lent head home hardware queues regions) ≡ true) ⌝ }
+    ensures { λ r. ⌜ replied r (after head home hardware queues regions) (now (effects .exit))
+        ≡ performed (Process on) (before head home hardware queues regions) (now (effects .entry)) ⌝ }
 {
     let k = on.0 as usize;
     if effects.len() < MAX_NUMBER_OF_COMMANDS * EFFECT_WORDS {
-        return FlowAnswer::refused(Error::RoomTooShort);
+        return Reply::refused(Error::RoomTooShort);
     }
     if head[HARDWARE_WORD] <= on.0 {
-        return FlowAnswer::refused(Error::NoSuchHardwareHart);
+        return Reply::refused(Error::NoSuchHardwareHart);
     }
     let idle = hart_tables::is_dummy(hardware, k);
     if idle {
-        return FlowAnswer::refused(Error::HardwareHartIdle);
+        return Reply::refused(Error::HardwareHartIdle);
     }
     let hart = hart_tables::id(hardware, k);
     let n = held_hart::execute_queued(hart, hardware, k, queues, effects);
-    FlowAnswer {
+    Reply {
         answer: Answer::Count(n),
         did: n,
     }
@@ -122,12 +126,13 @@ pub fn process_confidential_hart_remote_commands(
     queues: &mut [u64],
     regions: &[u64],
     effects: &mut [u64],
-) -> FlowAnswer
-    ensures { λ r. ⌜ answered r (tables (now (head .entry)) (now (home .entry)) (now (hardware .exit)) (now (queues .exit)) (now (regions .entry))) (now (effects .exit)) ≡ flowPerformed (Process on) (tables (now (head .entry)) (now (home .entry)) (now (hardware .entry)) (now (queues .entry)) (now (regions .entry))) (now (effects .entry)) ⌝ }
+) -> Reply
+    ensures { λ r. ⌜ replied r (after head home hardware queues regions) (now (effects .exit))
+        ≡ performed (Process on) (before head home hardware queues regions) (now (effects .entry)) ⌝ }
 {
     let unsound = !sound_tables::are_tables_sound(head, home, hardware, queues, regions);
     if unsound {
-        return FlowAnswer::refused(Error::TablesNotSound);
+        return Reply::refused(Error::TablesNotSound);
     }
     process(on, head, home, hardware, queues, regions, effects)
 }

@@ -6,7 +6,8 @@ use Rattle.error.specs.Error.{done}
 use Rattle.bits.specs.Bit.{clearBit}
 use Rattle.table_rows.specs.Choice.{pick}
 use Rattle.hart_lifecycle_state.specs.Lifecycle.{started, stopped, only}
-use Rattle.confidential_hart.specs.Hart.{theVm, idleHart, wellFormed, initialMstatus}
+use Rattle.confidential_hart.specs.Hart.{theVm, idleHart, wellFormed}
+use Rattle.confidential_hart.specs.Status.{initialMstatus}
 use Rattle.confidential_hart.specs.HartStart.{startRegisters}
 use Rattle.confidential_hart.specs.Transition.{applied, transition, afterStart}
 

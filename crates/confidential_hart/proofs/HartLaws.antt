@@ -7,7 +7,7 @@ use borrow.Author.Tests.{eqb-true, eqb-false, leb-true, eq-eqb, le-leb}
 use Rattle.table_rows.specs.Choice.{every, allZero}
 use Rattle.table_rows.proofs.PickLaws.{and-left, and-right, and-both}
 use Rattle.confidential_hart.specs.declared.ConfidentialHart.{ConfidentialHart}
-use Rattle.confidential_hart.specs.Hart.{noVm, theVm, noOperation, lastOperation, isDummy, withOperation, operationSound, dummySound, wellFormed, initialMstatus, dummy, resetHart, bootHart}
+use Rattle.confidential_hart.specs.Hart.{noVm, theVm, noOperation, lastOperation, isDummy, withOperation, operationSound, dummySound, wellFormed, dummy, resetHart, bootHart}
 use Rattle.hart_lifecycle_state.specs.Lifecycle.{started, poweredOff}
 
 -- ---- a well-formed record
@@ -104,6 +104,3 @@ reset-formed id = refl
 pub boot-formed : (id pc fdt vsatp vsstatus : ℕ) → wellFormed (bootHart id pc fdt vsatp vsstatus) ≡ true
 unfolding wellFormed
 boot-formed id pc fdt vsatp vsstatus = refl
-
-pub initial-mstatus : initialMstatus ≡ 549755815970
-initial-mstatus = refl

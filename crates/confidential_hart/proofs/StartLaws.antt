@@ -13,7 +13,8 @@ use Rattle.bits.proofs.BitLaws.{bits-ext, clear-same, clear-other}
 use Rattle.table_rows.proofs.PickLaws.{by-test}
 use Rattle.table_rows.proofs.RowLaws.{words-all}
 use Rattle.confidential_hart.specs.Hart.{registerCount}
-use Rattle.confidential_hart.specs.HartStart.{a1, mepc, mstatus, vsstatus, sie, spie, mpie, startRegisters, wakeRegisters, HartStarted, HartWoken}
+use Rattle.confidential_hart.specs.Status.{sie, spie, mpie}
+use Rattle.confidential_hart.specs.HartStart.{a1, mepc, mstatus, vsstatus, startRegisters, wakeRegisters, HartStarted, HartWoken}
 
 -- ---- a number with a bit cleared is the only one with that bit 0 and the other bits as they were
 

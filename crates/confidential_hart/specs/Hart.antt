@@ -1,11 +1,12 @@
 -- The hart record: when it is as it must be, and how setup makes it.
-use Prim.Native.Nat.{ℕ, _+_, _^_}
+use Prim.Native.Nat.{ℕ}
 use mathlib.Core.Bool.{Bool, _&&_, _||_, not}
 use mathlib.Core.List.{List, [], _∷_}
 use lib.ListN.{replicate}
 use lib.Dec.{eqb, leb}
 use Rattle.table_rows.specs.Choice.{allZero}
 use Rattle.confidential_hart.specs.declared.ConfidentialHart.{ConfidentialHart}
+use Rattle.confidential_hart.specs.Status.{initialMstatus}
 use Rattle.hart_lifecycle_state.specs.Lifecycle.{started, stopped, suspended, poweredOff}
 
 -- how many registers are saved
@@ -61,10 +62,6 @@ wellFormed h =
     leb (h .vm) theVm && leb (h .lifecycle) poweredOff && leb (h .operation) lastOperation && operationSound h && dummySound h
 
 -- ---- as setup makes it
-
--- every mstatus at setup: bits 39, 11, 5 and 1, which is 549755815970
-abbrev pub initialMstatus : ℕ
-initialMstatus = 2 ^ 39 + 2 ^ 11 + 2 ^ 5 + 2 ^ 1
 
 -- a record with no operation
 abbrev pub idleHart : ℕ → ℕ → ℕ → List ℕ → ConfidentialHart

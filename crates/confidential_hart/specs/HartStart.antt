@@ -5,6 +5,7 @@ use mathlib.Core.Logic.{_≢_}
 use mathlib.Core.List.{List, [], _∷_}
 use lib.ListN.{length, getD, set}
 use Rattle.bits.specs.Bit.{bit, clearBit}
+use Rattle.confidential_hart.specs.Status.{sie, spie, mpie}
 
 -- the places of the saved registers
 abbrev pub a0 : ℕ
@@ -24,18 +25,6 @@ mstatus = 4
 
 abbrev pub vsstatus : ℕ
 vsstatus = 5
-
--- RISC-V Privileged (20211203), chapter "Supervisor-Level ISA", "Supervisor Status Register (sstatus)": SIE is bit 1. Chapter "Hypervisor
--- Extension", "Virtual Supervisor Status Register (vsstatus)": its bits are those of sstatus.
-abbrev pub sie : ℕ
-sie = 1
-
--- RISC-V Privileged (20211203), chapter "Machine-Level ISA", "Machine Status Registers (mstatus and mstatush)": SPIE is bit 5, MPIE is bit 7
-abbrev pub spie : ℕ
-spie = 5
-
-abbrev pub mpie : ℕ
-mpie = 7
 
 -- registers after writes to some of them, each a place and its new value; the others are as they were
 abbrev pub written : List (ℕ × ℕ) → List ℕ → List ℕ

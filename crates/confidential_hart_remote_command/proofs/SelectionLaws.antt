@@ -12,7 +12,7 @@ use Rattle.table_rows.proofs.PickLaws.{by-test, and-left, and-right, and-both}
 use Rattle.confidential_hart_remote_command.specs.declared.ConfidentialHartRemoteCommand.{ConfidentialHartRemoteCommand}
 use Rattle.confidential_hart_remote_command.specs.Command.{shutdownRequest}
 use Rattle.confidential_hart_remote_command.specs.Selection.{xlen, minusOne, inHartList, selects, maskSelects}
-use Rattle.table_rows.proofs.SomeLaws.{some-is}
+use Rattle.table_rows.proofs.ExistsLaws.{exists-is}
 
 module _ (mask base h : ℕ) where
   -- the bit that names h, where there is one
@@ -29,7 +29,7 @@ module _ (mask base h : ℕ) where
   unfolding inHartList maskSelects
   hart-list =
       ap (_||_ (eqb base minusOne))
-      (some-is (λ i. eqb (bit i mask) 1 && eqb h (base + i)) xlen _ (h - base) named
+      (exists-is (λ i. eqb (bit i mask) 1 && eqb h (base + i)) xlen _ (h - base) named
       (λ i l e.
       let q : h ≡ base + i = eqb-true h (base + i) (and-right (eqb (bit i mask) 1) _ e) in
       let d : i ≡ h - base = omega arith in
@@ -51,7 +51,7 @@ pub one-bit : (d base h : ℕ) → d < xlen → base ≢ minusOne → inHartList
 unfolding inHartList
 one-bit d base h l ne =
     rw (ne-eqb base minusOne ne)
-    (some-is (λ i. eqb (bit i (2 ^ d)) 1 && eqb h (base + i)) xlen (eqb h (base + d)) d
+    (exists-is (λ i. eqb (bit i (2 ^ d)) 1 && eqb h (base + i)) xlen (eqb h (base + d)) d
     (λ e. (l, and-both {a = eqb (bit d (2 ^ d)) 1} (eq-eqb _ _ (rw (pow-set d) at (set-same d 0))) e))
     (λ i b e.
     let one : bit i (2 ^ d) ≡ 1 = eqb-true _ _ (and-left (eqb (bit i (2 ^ d)) 1) _ e) in

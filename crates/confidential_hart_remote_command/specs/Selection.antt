@@ -3,7 +3,7 @@ use Prim.Native.Nat.{ℕ, _+_, _-_, _^_}
 use mathlib.Core.Bool.{Bool, _&&_, _||_}
 use lib.Dec.{eqb, leb, ltb}
 use Rattle.bits.specs.Bit.{bit}
-use Rattle.table_rows.specs.Choice.{some}
+use Rattle.table_rows.specs.Choice.{exists}
 use Rattle.confidential_hart_remote_command.specs.declared.ConfidentialHartRemoteCommand.{ConfidentialHartRemoteCommand}
 use Rattle.confidential_hart_remote_command.specs.Command.{shutdownRequest}
 
@@ -18,7 +18,7 @@ minusOne = 2 ^ xlen - 1
 -- bit i of hart_mask stands for hart hart_mask_base + i
 unfoldable pub inHartList : ℕ → ℕ → ℕ → Bool
 inHartList hartMask hartMaskBase h =
-    eqb hartMaskBase minusOne || some (λ i. eqb (bit i hartMask) 1 && eqb h (hartMaskBase + i)) xlen
+    eqb hartMaskBase minusOne || exists (λ i. eqb (bit i hartMask) 1 && eqb h (hartMaskBase + i)) xlen
 
 -- a command selects the harts of its list, and ShutdownRequest all
 unfoldable pub selects : ConfidentialHartRemoteCommand → ℕ → Bool

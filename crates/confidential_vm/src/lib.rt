@@ -4,10 +4,12 @@
 // Changed: ported to Rattle from the context switches and the interrupts of core/control_data/confidential_vm.rs. The tables are lent. Each
 // entry takes any numbers and any tables; the function above it is for sound tables.
 ghost use mathlib.Core.Path.{_≡_};
+ghost use mathlib.Core.List.{[]};
 ghost use mathlib.Core.Bool.{true};
 ghost use Rattle.monitor_requests.specs.declared.Request.the-variants.{Steal, Return, Allow};
-ghost use Rattle.monitor_requests.specs.Tables.{tables, sound, Sized};
-ghost use Rattle.monitor_requests.specs.Requests.{outcome, performed};
+ghost use Rattle.monitor_requests.specs.Tables.{sound, Sized};
+ghost use Rattle.monitor_requests.specs.LentTables.{lent, before, after};
+ghost use Rattle.monitor_requests.specs.Requests.{answering, performed};
 use confidential_hart::ConfidentialHartId;
 use confidential_hart::HardwareHartId;
 use error::Error;
@@ -26,8 +28,9 @@ fn steal(
     queues: &[u64],
     regions: &[u64],
 ) -> Answer
-    requires { ⌜ (Sized (tables (now head) (now home) (now hardware) (now queues) (now regions))) × (sound (tables (now head) (now home) (now hardware) (now queues) (now regions)) ≡ true) ⌝ }
-    ensures { λ r. ⌜ outcome r (tables (now (head .entry)) (now (home .exit)) (now (hardware .exit)) (now (queues .entry)) (now (regions .entry))) ≡ performed (Steal hart on) (tables (now (head .entry)) (now (home .entry)) (now (hardware .entry)) (now (queues .entry)) (now (regions .entry))) ⌝ }
+    requires { ⌜ (Sized (lent head home hardware queues regions)) × (sound (lent head home hardware queues regions) ≡ true) ⌝ }
+    ensures { λ r. ⌜ answering r (after head home hardware queues regions) []
+        ≡ performed (Steal hart on) (before head home hardware queues regions) [] ⌝ }
 {
     let h = hart.0 as usize;
     let k = on.0 as usize;
@@ -64,7 +67,8 @@ pub fn steal_confidential_hart(
     queues: &[u64],
     regions: &[u64],
 ) -> Answer
-    ensures { λ r. ⌜ outcome r (tables (now (head .entry)) (now (home .exit)) (now (hardware .exit)) (now (queues .entry)) (now (regions .entry))) ≡ performed (Steal hart on) (tables (now (head .entry)) (now (home .entry)) (now (hardware .entry)) (now (queues .entry)) (now (regions .entry))) ⌝ }
+    ensures { λ r. ⌜ answering r (after head home hardware queues regions) []
+        ≡ performed (Steal hart on) (before head home hardware queues regions) [] ⌝ }
 {
     let unsound = !sound_tables::are_tables_sound(head, home, hardware, queues, regions);
     if unsound {
@@ -82,8 +86,9 @@ fn give_back(
     queues: &[u64],
     regions: &[u64],
 ) -> Answer
-    requires { ⌜ (Sized (tables (now head) (now home) (now hardware) (now queues) (now regions))) × (sound (tables (now head) (now home) (now hardware) (now queues) (now regions)) ≡ true) ⌝ }
-    ensures { λ r. ⌜ outcome r (tables (now (head .entry)) (now (home .exit)) (now (hardware .exit)) (now (queues .entry)) (now (regions .entry))) ≡ performed (Return on) (tables (now (head .entry)) (now (home .entry)) (now (hardware .entry)) (now (queues .entry)) (now (regions .entry))) ⌝ }
+    requires { ⌜ (Sized (lent head home hardware queues regions)) × (sound (lent head home hardware queues regions) ≡ true) ⌝ }
+    ensures { λ r. ⌜ answering r (after head home hardware queues regions) []
+        ≡ performed (Return on) (before head home hardware queues regions) [] ⌝ }
 {
     let k = on.0 as usize;
     if head[HARDWARE_WORD] <= on.0 {
@@ -107,7 +112,8 @@ pub fn return_confidential_hart(
     queues: &[u64],
     regions: &[u64],
 ) -> Answer
-    ensures { λ r. ⌜ outcome r (tables (now (head .entry)) (now (home .exit)) (now (hardware .exit)) (now (queues .entry)) (now (regions .entry))) ≡ performed (Return on) (tables (now (head .entry)) (now (home .entry)) (now (hardware .entry)) (now (queues .entry)) (now (regions .entry))) ⌝ }
+    ensures { λ r. ⌜ answering r (after head home hardware queues regions) []
+        ≡ performed (Return on) (before head home hardware queues regions) [] ⌝ }
 {
     let unsound = !sound_tables::are_tables_sound(head, home, hardware, queues, regions);
     if unsound {
@@ -125,8 +131,9 @@ fn allow(
     queues: &[u64],
     regions: &[u64],
 ) -> Answer
-    requires { ⌜ (Sized (tables (now head) (now home) (now hardware) (now queues) (now regions))) × (sound (tables (now head) (now home) (now hardware) (now queues) (now regions)) ≡ true) ⌝ }
-    ensures { λ r. ⌜ outcome r (tables (now (head .exit)) (now (home .entry)) (now (hardware .entry)) (now (queues .entry)) (now (regions .entry))) ≡ performed (Allow bits) (tables (now (head .entry)) (now (home .entry)) (now (hardware .entry)) (now (queues .entry)) (now (regions .entry))) ⌝ }
+    requires { ⌜ (Sized (lent head home hardware queues regions)) × (sound (lent head home hardware queues regions) ≡ true) ⌝ }
+    ensures { λ r. ⌜ answering r (after head home hardware queues regions) []
+        ≡ performed (Allow bits) (before head home hardware queues regions) [] ⌝ }
 {
     head[ALLOWED_WORD] |= bits;
     Answer::Done
@@ -141,7 +148,8 @@ pub fn allow_external_interrupt(
     queues: &[u64],
     regions: &[u64],
 ) -> Answer
-    ensures { λ r. ⌜ outcome r (tables (now (head .exit)) (now (home .entry)) (now (hardware .entry)) (now (queues .entry)) (now (regions .entry))) ≡ performed (Allow bits) (tables (now (head .entry)) (now (home .entry)) (now (hardware .entry)) (now (queues .entry)) (now (regions .entry))) ⌝ }
+    ensures { λ r. ⌜ answering r (after head home hardware queues regions) []
+        ≡ performed (Allow bits) (before head home hardware queues regions) [] ⌝ }
 {
     let unsound = !sound_tables::are_tables_sound(head, home, hardware, queues, regions);
     if unsound {

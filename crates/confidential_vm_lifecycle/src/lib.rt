@@ -4,15 +4,17 @@
 // Changed: ported to Rattle from the lifecycle of core/control_data/confidential_vm.rs. The tables are lent. Each entry takes any numbers and
 // any tables; the function above it is for sound tables.
 ghost use mathlib.Core.Path.{_≡_};
+ghost use mathlib.Core.List.{[]};
 ghost use mathlib.Core.Bool.{true, not};
 ghost use Prim.Native.Nat.{_*_, _≤_};
 ghost use lib.ListN.{length};
 ghost use Rattle.table_rows.specs.Choice.{every};
 ghost use Rattle.confidential_hart.specs.Hart.{isDummy};
-ghost use Rattle.hart_rows.specs.Rows.{hartWords, hartAt};
+ghost use Rattle.hart_rows.specs.HartRows.{hartWords, hartAt};
 ghost use Rattle.monitor_requests.specs.declared.Request.the-variants.{Start, Status, Home};
-ghost use Rattle.monitor_requests.specs.Tables.{tables, sound, Sized};
-ghost use Rattle.monitor_requests.specs.Requests.{outcome, performed};
+ghost use Rattle.monitor_requests.specs.Tables.{sound, Sized};
+ghost use Rattle.monitor_requests.specs.LentTables.{lent, before, after};
+ghost use Rattle.monitor_requests.specs.Requests.{answering, performed};
 use confidential_hart::ConfidentialHartId;
 use error::Error;
 use monitor_requests::Answer;
@@ -29,8 +31,9 @@ fn start(
     queues: &[u64],
     regions: &[u64],
 ) -> Answer
-    requires { ⌜ (Sized (tables (now head) (now home) (now hardware) (now queues) (now regions))) × (sound (tables (now head) (now home) (now hardware) (now queues) (now regions)) ≡ true) ⌝ }
-    ensures { λ r. ⌜ outcome r (tables (now (head .entry)) (now (home .exit)) (now (hardware .entry)) (now (queues .entry)) (now (regions .entry))) ≡ performed (Start hart address opaque) (tables (now (head .entry)) (now (home .entry)) (now (hardware .entry)) (now (queues .entry)) (now (regions .entry))) ⌝ }
+    requires { ⌜ (Sized (lent head home hardware queues regions)) × (sound (lent head home hardware queues regions) ≡ true) ⌝ }
+    ensures { λ r. ⌜ answering r (after head home hardware queues regions) []
+        ≡ performed (Start hart address opaque) (before head home hardware queues regions) [] ⌝ }
 {
     let h = hart.0 as usize;
     if head[HARTS_WORD] <= hart.0 {
@@ -59,7 +62,8 @@ pub fn start_confidential_hart(
     queues: &[u64],
     regions: &[u64],
 ) -> Answer
-    ensures { λ r. ⌜ outcome r (tables (now (head .entry)) (now (home .exit)) (now (hardware .entry)) (now (queues .entry)) (now (regions .entry))) ≡ performed (Start hart address opaque) (tables (now (head .entry)) (now (home .entry)) (now (hardware .entry)) (now (queues .entry)) (now (regions .entry))) ⌝ }
+    ensures { λ r. ⌜ answering r (after head home hardware queues regions) []
+        ≡ performed (Start hart address opaque) (before head home hardware queues regions) [] ⌝ }
 {
     let unsound = !sound_tables::are_tables_sound(head, home, hardware, queues, regions);
     if unsound {
@@ -77,8 +81,9 @@ fn state(
     queues: &[u64],
     regions: &[u64],
 ) -> Answer
-    requires { ⌜ (Sized (tables (now head) (now home) (now hardware) (now queues) (now regions))) × (sound (tables (now head) (now home) (now hardware) (now queues) (now regions)) ≡ true) ⌝ }
-    ensures { λ r. ⌜ outcome r (tables (now (head .entry)) (now (home .entry)) (now (hardware .entry)) (now (queues .entry)) (now (regions .entry))) ≡ performed (Status hart) (tables (now (head .entry)) (now (home .entry)) (now (hardware .entry)) (now (queues .entry)) (now (regions .entry))) ⌝ }
+    requires { ⌜ (Sized (lent head home hardware queues regions)) × (sound (lent head home hardware queues regions) ≡ true) ⌝ }
+    ensures { λ r. ⌜ answering r (after head home hardware queues regions) []
+        ≡ performed (Status hart) (before head home hardware queues regions) [] ⌝ }
 {
     if head[HARTS_WORD] <= hart.0 {
         return Answer::Refused(Error::InvalidHartId);
@@ -95,7 +100,8 @@ pub fn confidential_hart_lifecycle_state(
     queues: &[u64],
     regions: &[u64],
 ) -> Answer
-    ensures { λ r. ⌜ outcome r (tables (now (head .entry)) (now (home .entry)) (now (hardware .entry)) (now (queues .entry)) (now (regions .entry))) ≡ performed (Status hart) (tables (now (head .entry)) (now (home .entry)) (now (hardware .entry)) (now (queues .entry)) (now (regions .entry))) ⌝ }
+    ensures { λ r. ⌜ answering r (after head home hardware queues regions) []
+        ≡ performed (Status hart) (before head home hardware queues regions) [] ⌝ }
 {
     let unsound = !sound_tables::are_tables_sound(head, home, hardware, queues, regions);
     if unsound {
@@ -127,8 +133,9 @@ fn executing(
     queues: &[u64],
     regions: &[u64],
 ) -> Answer
-    requires { ⌜ (Sized (tables (now head) (now home) (now hardware) (now queues) (now regions))) × (sound (tables (now head) (now home) (now hardware) (now queues) (now regions)) ≡ true) ⌝ }
-    ensures { λ r. ⌜ outcome r (tables (now (head .entry)) (now (home .entry)) (now (hardware .entry)) (now (queues .entry)) (now (regions .entry))) ≡ performed Home (tables (now (head .entry)) (now (home .entry)) (now (hardware .entry)) (now (queues .entry)) (now (regions .entry))) ⌝ }
+    requires { ⌜ (Sized (lent head home hardware queues regions)) × (sound (lent head home hardware queues regions) ≡ true) ⌝ }
+    ensures { λ r. ⌜ answering r (after head home hardware queues regions) []
+        ≡ performed Home (before head home hardware queues regions) [] ⌝ }
 {
     Answer::Flag(are_all_home(home, head[HARTS_WORD] as usize))
 }
@@ -141,7 +148,8 @@ pub fn is_vm_executing(
     queues: &[u64],
     regions: &[u64],
 ) -> Answer
-    ensures { λ r. ⌜ outcome r (tables (now (head .entry)) (now (home .entry)) (now (hardware .entry)) (now (queues .entry)) (now (regions .entry))) ≡ performed Home (tables (now (head .entry)) (now (home .entry)) (now (hardware .entry)) (now (queues .entry)) (now (regions .entry))) ⌝ }
+    ensures { λ r. ⌜ answering r (after head home hardware queues regions) []
+        ≡ performed Home (before head home hardware queues regions) [] ⌝ }
 {
     let unsound = !sound_tables::are_tables_sound(head, home, hardware, queues, regions);
     if unsound {

@@ -21,7 +21,7 @@ use Rattle.mmio_regions.proofs.TableLaws.{laid-same}
 use Rattle.monitor_requests.specs.declared.Answer.the-variants.{Refused, Done, Flag}
 use Rattle.monitor_requests.specs.declared.Request.the-variants.{Add, Remove, Defined}
 use Rattle.monitor_requests.specs.Tables.{Tables, tables, regionsWord, regionCount, regionsOf, sound, Sized}
-use Rattle.monitor_requests.specs.Requests.{outcome, tests, effect, performed}
+use Rattle.monitor_requests.specs.Requests.{answering, tests, effect, performed}
 
 -- ---- the region that is made
 
@@ -68,21 +68,21 @@ module _ (base size : ℕ) (t : Tables) (s : sound t ≡ true) (fits : ltb maxEn
   -- ---- defined
 
   pub defined-answer : {q : ConfidentialVmMmioRegion} {flag : Bool} → q ≡ query → flag ≡ anyContains q stand
-      → outcome (Flag flag) t ≡ performed (Defined base size) t
+      → answering (Flag flag) t [] ≡ performed (Defined base size) t []
   unfolding tests effect performed
   defined-answer e f =
       no _ (not-no _ s)
-      (no _ fits (ap (λ (b : Bool). outcome (Flag b) t) (f ∙ ap (λ (r : ConfidentialVmMmioRegion). anyContains r stand) e)))
+      (no _ fits (ap (λ (b : Bool). answering (Flag b) t []) (f ∙ ap (λ (r : ConfidentialVmMmioRegion). anyContains r stand) e)))
 
   -- ---- remove
 
   pub removed-answer : {count : ℕ} {words : List ℕ} → table count words ≡ removed (t .regions) (regionCount t) query
-      → outcome Done (tables (set (t .head) regionsWord count) (t .home) (t .hardware) (t .queues) words) ≡ performed (Remove base size) t
+      → answering Done (tables (set (t .head) regionsWord count) (t .home) (t .hardware) (t .queues) words) [] ≡ performed (Remove base size) t []
   unfolding tests effect performed removed
   removed-answer e =
       no _ (not-no _ s)
       (no _ fits
-      (ap (λ (o : Table). outcome Done (tables (set (t .head) regionsWord (o .count)) (t .home) (t .hardware) (t .queues) (o .words))) e))
+      (ap (λ (o : Table). answering Done (tables (set (t .head) regionsWord (o .count)) (t .home) (t .hardware) (t .queues) (o .words)) []) e))
 
   -- ---- add
 
@@ -104,14 +104,14 @@ module _ (base size : ℕ) (t : Tables) (s : sound t ≡ true) (fits : ltb maxEn
   unfolding addNumber
   is-free f e = sym (no _ f (no _ e refl))
 
-  module _ {r : Added} {words : List ℕ} (e : regions.outcome r words ≡ added (t .regions) (regionCount t) query) where
+  module _ {r : Added} {words : List ℕ} (e : regions.addition r words ≡ added (t .regions) (regionCount t) query) where
     given : r .number ≡ addNumber query stand
     unfolding added
-    given = ap (λ (o : regions.Outcome). o .number) e
+    given = ap (λ (o : regions.Addition). o .number) e
 
     left : table (r .count) words ≡ relaid (t .regions) (regionCount t) (withAdded query stand)
     unfolding added
-    left = ap (λ (o : regions.Outcome). o .after) e
+    left = ap (λ (o : regions.Addition). o .after) e
 
     -- a number other than 0 left the words as they were
     kept : Sized t → eqb (r .number) done ≡ false → words ≡ t .regions
@@ -143,28 +143,28 @@ module _ (base size : ℕ) (t : Tables) (s : sound t ≡ true) (fits : ltb maxEn
     not-ten f p = by-test overlapping (λ o. absurd (p (given ∙ is-overlapping f o))) (λ o. o)
 
     pub full-answer : Sized t → r .number ≡ reachedMaxNumberOfMmioRegions
-        → outcome (Refused ReachedMaxNumberOfMmioRegions) (tables (t .head) (t .home) (t .hardware) (t .queues) words) ≡ performed (Add base size) t
+        → answering (Refused ReachedMaxNumberOfMmioRegions) (tables (t .head) (t .home) (t .hardware) (t .queues) words) [] ≡ performed (Add base size) t []
     unfolding tests effect performed
     full-answer z p =
         no _ (not-no _ s)
         (no _ fits
         (yes _ (is-nine p)
-        (ap (λ (ws : List ℕ). outcome (Refused ReachedMaxNumberOfMmioRegions) (tables (t .head) (t .home) (t .hardware) (t .queues) ws))
+        (ap (λ (ws : List ℕ). answering (Refused ReachedMaxNumberOfMmioRegions) (tables (t .head) (t .home) (t .hardware) (t .queues) ws) [])
         (kept z (ap (λ (k : ℕ). eqb k done) p)))))
 
     pub overlapping-answer : Sized t → r .number ≢ reachedMaxNumberOfMmioRegions → r .number ≡ overlappingMmioRegion
-        → outcome (Refused OverlappingMmioRegion) (tables (t .head) (t .home) (t .hardware) (t .queues) words) ≡ performed (Add base size) t
+        → answering (Refused OverlappingMmioRegion) (tables (t .head) (t .home) (t .hardware) (t .queues) words) [] ≡ performed (Add base size) t []
     unfolding tests effect performed
     overlapping-answer z n p =
         no _ (not-no _ s)
         (no _ fits
         (no _ (not-nine n)
         (yes _ (is-ten (not-nine n) p)
-        (ap (λ (ws : List ℕ). outcome (Refused OverlappingMmioRegion) (tables (t .head) (t .home) (t .hardware) (t .queues) ws))
+        (ap (λ (ws : List ℕ). answering (Refused OverlappingMmioRegion) (tables (t .head) (t .home) (t .hardware) (t .queues) ws) [])
         (kept z (ap (λ (k : ℕ). eqb k done) p))))))
 
     pub added-answer : r .number ≢ reachedMaxNumberOfMmioRegions → r .number ≢ overlappingMmioRegion
-        → outcome Done (tables (set (t .head) regionsWord (r .count)) (t .home) (t .hardware) (t .queues) words) ≡ performed (Add base size) t
+        → answering Done (tables (set (t .head) regionsWord (r .count)) (t .home) (t .hardware) (t .queues) words) [] ≡ performed (Add base size) t []
     unfolding tests effect performed withAdded
     added-answer n p =
         let free : addNumber query stand ≡ done = is-free (not-nine n) (not-ten (not-nine n) p) in
@@ -173,5 +173,5 @@ module _ (base size : ℕ) (t : Tables) (s : sound t ≡ true) (fits : ltb maxEn
         (no _ fits
         (no _ (not-nine n)
         (no _ (not-ten (not-nine n) p)
-        (ap (λ (o : Table). outcome Done (tables (set (t .head) regionsWord (o .count)) (t .home) (t .hardware) (t .queues) (o .words)))
+        (ap (λ (o : Table). answering Done (tables (set (t .head) regionsWord (o .count)) (t .home) (t .hardware) (t .queues) (o .words)) [])
         (left ∙ ap (relaid (t .regions) (regionCount t)) (sym more))))))

@@ -4,10 +4,12 @@
 // Changed: ported to Rattle from `add_mmio_region`, `remove_mmio_region` and `is_mmio_region_defined` of
 // core/control_data/confidential_vm.rs. A region comes as its base and size, and each entry judges the tables first.
 ghost use mathlib.Core.Path.{_≡_};
+ghost use mathlib.Core.List.{[]};
 ghost use mathlib.Core.Bool.{true};
 ghost use Rattle.monitor_requests.specs.declared.Request.the-variants.{Add, Remove, Defined};
-ghost use Rattle.monitor_requests.specs.Tables.{tables, sound, Sized};
-ghost use Rattle.monitor_requests.specs.Requests.{outcome, performed};
+ghost use Rattle.monitor_requests.specs.Tables.{sound, Sized};
+ghost use Rattle.monitor_requests.specs.LentTables.{lent, before, after};
+ghost use Rattle.monitor_requests.specs.Requests.{answering, performed};
 use confidential_vm_mmio_region::ConfidentialVmMmioRegion;
 use error::Error;
 use monitor_requests::Answer;
@@ -23,8 +25,9 @@ fn add(
     queues: &[u64],
     regions: &mut [u64],
 ) -> Answer
-    requires { ⌜ Sized (tables (now head) (now home) (now hardware) (now queues) (now regions)) × (sound (tables (now head) (now home) (now hardware) (now queues) (now regions)) ≡ true) ⌝ }
-    ensures { λ r. ⌜ outcome r (tables (now (head .exit)) (now (home .entry)) (now (hardware .entry)) (now (queues .entry)) (now (regions .exit))) ≡ performed (Add base size) (tables (now (head .entry)) (now (home .entry)) (now (hardware .entry)) (now (queues .entry)) (now (regions .entry))) ⌝ }
+    requires { ⌜ Sized (lent head home hardware queues regions) × (sound (lent head home hardware queues regions) ≡ true) ⌝ }
+    ensures { λ r. ⌜ answering r (after head home hardware queues regions) []
+        ≡ performed (Add base size) (before head home hardware queues regions) [] ⌝ }
 {
     let new = ConfidentialVmMmioRegion::new(base, size);
     if new.number != error::DONE {
@@ -51,7 +54,8 @@ pub fn add_mmio_region(
     queues: &[u64],
     regions: &mut [u64],
 ) -> Answer
-    ensures { λ r. ⌜ outcome r (tables (now (head .exit)) (now (home .entry)) (now (hardware .entry)) (now (queues .entry)) (now (regions .exit))) ≡ performed (Add base size) (tables (now (head .entry)) (now (home .entry)) (now (hardware .entry)) (now (queues .entry)) (now (regions .entry))) ⌝ }
+    ensures { λ r. ⌜ answering r (after head home hardware queues regions) []
+        ≡ performed (Add base size) (before head home hardware queues regions) [] ⌝ }
 {
     let unsound = !sound_tables::are_tables_sound(head, home, hardware, queues, regions);
     if unsound {
@@ -70,8 +74,9 @@ fn remove(
     queues: &[u64],
     regions: &mut [u64],
 ) -> Answer
-    requires { ⌜ Sized (tables (now head) (now home) (now hardware) (now queues) (now regions)) × (sound (tables (now head) (now home) (now hardware) (now queues) (now regions)) ≡ true) ⌝ }
-    ensures { λ r. ⌜ outcome r (tables (now (head .exit)) (now (home .entry)) (now (hardware .entry)) (now (queues .entry)) (now (regions .exit))) ≡ performed (Remove base size) (tables (now (head .entry)) (now (home .entry)) (now (hardware .entry)) (now (queues .entry)) (now (regions .entry))) ⌝ }
+    requires { ⌜ Sized (lent head home hardware queues regions) × (sound (lent head home hardware queues regions) ≡ true) ⌝ }
+    ensures { λ r. ⌜ answering r (after head home hardware queues regions) []
+        ≡ performed (Remove base size) (before head home hardware queues regions) [] ⌝ }
 {
     let new = ConfidentialVmMmioRegion::new(base, size);
     if new.number != error::DONE {
@@ -91,7 +96,8 @@ pub fn remove_mmio_region(
     queues: &[u64],
     regions: &mut [u64],
 ) -> Answer
-    ensures { λ r. ⌜ outcome r (tables (now (head .exit)) (now (home .entry)) (now (hardware .entry)) (now (queues .entry)) (now (regions .exit))) ≡ performed (Remove base size) (tables (now (head .entry)) (now (home .entry)) (now (hardware .entry)) (now (queues .entry)) (now (regions .entry))) ⌝ }
+    ensures { λ r. ⌜ answering r (after head home hardware queues regions) []
+        ≡ performed (Remove base size) (before head home hardware queues regions) [] ⌝ }
 {
     let unsound = !sound_tables::are_tables_sound(head, home, hardware, queues, regions);
     if unsound {
@@ -110,8 +116,9 @@ fn is_defined(
     queues: &[u64],
     regions: &[u64],
 ) -> Answer
-    requires { ⌜ Sized (tables (now head) (now home) (now hardware) (now queues) (now regions)) × (sound (tables (now head) (now home) (now hardware) (now queues) (now regions)) ≡ true) ⌝ }
-    ensures { λ r. ⌜ outcome r (tables (now (head .entry)) (now (home .entry)) (now (hardware .entry)) (now (queues .entry)) (now (regions .entry))) ≡ performed (Defined base size) (tables (now (head .entry)) (now (home .entry)) (now (hardware .entry)) (now (queues .entry)) (now (regions .entry))) ⌝ }
+    requires { ⌜ Sized (lent head home hardware queues regions) × (sound (lent head home hardware queues regions) ≡ true) ⌝ }
+    ensures { λ r. ⌜ answering r (after head home hardware queues regions) []
+        ≡ performed (Defined base size) (before head home hardware queues regions) [] ⌝ }
 {
     let new = ConfidentialVmMmioRegion::new(base, size);
     if new.number != error::DONE {
@@ -131,7 +138,8 @@ pub fn is_mmio_region_defined(
     queues: &[u64],
     regions: &[u64],
 ) -> Answer
-    ensures { λ r. ⌜ outcome r (tables (now (head .entry)) (now (home .entry)) (now (hardware .entry)) (now (queues .entry)) (now (regions .entry))) ≡ performed (Defined base size) (tables (now (head .entry)) (now (home .entry)) (now (hardware .entry)) (now (queues .entry)) (now (regions .entry))) ⌝ }
+    ensures { λ r. ⌜ answering r (after head home hardware queues regions) []
+        ≡ performed (Defined base size) (before head home hardware queues regions) [] ⌝ }
 {
     let unsound = !sound_tables::are_tables_sound(head, home, hardware, queues, regions);
     if unsound {

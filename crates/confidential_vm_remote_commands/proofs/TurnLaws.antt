@@ -21,9 +21,10 @@ use Rattle.confidential_hart_remote_command.specs.declared.ConfidentialHartRemo
 use Rattle.remote_commands.specs.Queue as Queue
 use Rattle.remote_commands.specs.Queue.{maxCommands, queueWords, count, offered}
 use Rattle.remote_commands.proofs.OfferLaws.{by-offer}
-use Rattle.hart_rows.specs.Rows.{hartAt}
+use Rattle.hart_rows.specs.HartRows.{hartAt}
 use Rattle.monitor_requests.specs.declared.Answer.{Answer}
-use Rattle.monitor_requests.specs.declared.Answer.the-variants.{Refused, Done, Mask, State, Flag, Count, Run, PoweredOff, Operation}
+use Rattle.monitor_requests.specs.declared.Answer.the-variants.{Refused, Mask}
+use Rattle.monitor_requests.proofs.AnswerLaws.{isMask, firstIn, no-mask}
 use Rattle.monitor_requests.specs.Requests.{receives, interrupting, Delivery, delivery, deliver}
 
 -- ---- an offer's number tells whether the queue was full
@@ -52,8 +53,8 @@ module _ (home : List ℕ) (sender : ℕ) (c : ConfidentialHartRemoteCommand) (i
   unfolding deliver
   passed-over e = yes _ e refl
 
-  module _ (here : not (receives home sender c i) ≡ false) (n : ℕ) (q : List ℕ) (said : Queue.outcome n q ≡ offered (lent queues i) c) where
-    of-row : Queue.outcome n q ≡ offered (row queueWords queues i) c
+  module _ (here : not (receives home sender c i) ≡ false) (n : ℕ) (q : List ℕ) (said : Queue.offer n q ≡ offered (lent queues i) c) where
+    of-row : Queue.offer n q ≡ offered (row queueWords queues i) c
     of-row = said ∙ ap (λ (r : List ℕ). offered r c) (part-row queueWords queues i)
 
     number-is : n ≡ offered (row queueWords queues i) c .number
@@ -83,30 +84,10 @@ module _ (home : List ℕ) (sender : ℕ) (c : ConfidentialHartRemoteCommand) (i
 
 -- what follows a turn: the other harts with the mask so far, or nothing once a queue refused
 unfoldable after : Answer → List ℕ → (ℕ → List ℕ → Delivery) → Delivery
-after (Refused e) queues rest = delivery (Refused e) queues
-after Done queues rest = delivery Done queues
-after (Mask mask) queues rest = rest mask queues
-after (State state) queues rest = delivery (State state) queues
-after (Flag flag) queues rest = delivery (Flag flag) queues
-after (Count count) queues rest = delivery (Count count) queues
-after Run queues rest = delivery Run queues
-after PoweredOff queues rest = delivery PoweredOff queues
-after (Operation kind x y) queues rest = delivery (Operation kind x y) queues
+after a queues rest = pick (isMask a) (rest (firstIn a) queues) (delivery a queues)
 
 abbrev andThen : Delivery → (ℕ → List ℕ → Delivery) → Delivery
 andThen d rest = after (d .answer) (d .queues) rest
-
-no-mask : (r : Answer) (queues : List ℕ) (rest : ℕ → List ℕ → Delivery) → ((m : ℕ) → r ≢ Mask m) → after r queues rest ≡ delivery r queues
-unfolding after
-no-mask (Refused e) queues rest ne = refl
-no-mask Done queues rest ne = refl
-no-mask (Mask mask) queues rest ne = absurd (ne mask refl)
-no-mask (State state) queues rest ne = refl
-no-mask (Flag flag) queues rest ne = refl
-no-mask (Count count) queues rest ne = refl
-no-mask Run queues rest ne = refl
-no-mask PoweredOff queues rest ne = refl
-no-mask (Operation kind x y) queues rest ne = refl
 
 then-pick : (b : Bool) (x y : Delivery) (rest : ℕ → List ℕ → Delivery) → pick b (andThen x rest) (andThen y rest) ≡ andThen (pick b x y) rest
 unfolding pick
@@ -117,7 +98,7 @@ module _ (home : List ℕ) (sender : ℕ) (c : ConfidentialHartRemoteCommand) wh
   -- a turn, and then the rest
   turn-first : (left i mask : ℕ) (queues : List ℕ)
       → deliver home sender c (suc left) i mask queues ≡ andThen (deliver home sender c 1 i mask queues) (deliver home sender c left (i + 1))
-  unfolding deliver after
+  unfolding deliver after pick
   turn-first left i mask queues =
       ap (λ (d : Delivery). pick (not (receives home sender c i)) (deliver home sender c left (i + 1) mask queues) d)
       (then-pick (leb maxCommands (count (row queueWords queues i))) _ _ (deliver home sender c left (i + 1)))
@@ -143,9 +124,10 @@ module _ (home : List ℕ) (sender : ℕ) (c : ConfidentialHartRemoteCommand) wh
             ∙ ap (λ (d : Delivery). andThen d (deliver home sender c (n - (i + 1)) (i + 1))) (sym v)
 
         pub turn-taken : (m : ℕ) → r ≡ Mask m → deliver home sender c (n - i) i mask queues ≡ deliver home sender c (n - (i + 1)) (i + 1) m queues′
-        unfolding after
+        unfolding after pick
         turn-taken m e = turn ∙ ap (λ (a : Answer). after a queues′ (deliver home sender c (n - (i + 1)) (i + 1))) e
 
         -- an answer that is no mask ends the loop
         pub turn-ends : ((m : ℕ) → r ≢ Mask m) → deliver home sender c (n - i) i mask queues ≡ delivery r queues′
-        turn-ends ne = turn ∙ no-mask r queues′ _ ne
+        unfolding after
+        turn-ends ne = turn ∙ sym (no _ (no-mask r ne) refl)

@@ -5,7 +5,7 @@ use mathlib.Core.Bool.{true}
 use mathlib.Core.List.{List}
 use lib.ListN.{length}
 use Rattle.confidential_hart.specs.Hart.{isDummy}
-use Rattle.hart_rows.specs.Rows.{hartWords, hartAt}
+use Rattle.hart_rows.specs.HartRows.{hartWords, hartAt}
 use Rattle.monitor_requests.specs.Tables.{maxHardwareHarts}
 
 -- a dummy in home row h has the number of a hardware hart

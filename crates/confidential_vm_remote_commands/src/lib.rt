@@ -4,14 +4,16 @@
 // Changed: ported to Rattle from `broadcast_remote_command` of core/control_data/confidential_vm.rs. The lazy fold over the harts is a loop
 // that stops at a full queue, and the tables are runs of words that the caller lends.
 ghost use mathlib.Core.Path.{_≡_};
+ghost use mathlib.Core.List.{[]};
 ghost use mathlib.Core.Bool.{true};
 ghost use Prim.Native.Nat.{_+_, _*_, _≤_};
 ghost use lib.ListN.{length};
 ghost use Rattle.remote_commands.specs.Queue.{queueWords};
-ghost use Rattle.hart_rows.specs.Rows.{hartWords};
-ghost use Rattle.monitor_requests.specs.Tables.{tables, Sized, sound};
+ghost use Rattle.hart_rows.specs.HartRows.{hartWords};
+ghost use Rattle.monitor_requests.specs.Tables.{Sized, sound};
+ghost use Rattle.monitor_requests.specs.LentTables.{lent, before, after};
 ghost use Rattle.monitor_requests.specs.declared.Request.the-variants.{Send};
-ghost use Rattle.monitor_requests.specs.Requests.{receives, delivery, deliver, outcome, performed};
+ghost use Rattle.monitor_requests.specs.Requests.{receives, delivery, deliver, answering, performed};
 ghost use Rattle.confidential_vm_remote_commands.specs.Homes.{Numbered, Homes};
 use confidential_hart_remote_command::ConfidentialHartRemoteCommand;
 use error::Error;
@@ -96,8 +98,9 @@ pub fn broadcast(
     queues: &mut [u64],
     regions: &[u64],
 ) -> Answer
-    requires { ⌜ (Sized (tables (now head) (now home) (now hardware) (now queues) (now regions))) × (sound (tables (now head) (now home) (now hardware) (now queues) (now regions)) ≡ true) ⌝ }
-    ensures { λ r. ⌜ outcome r (tables (now (head .entry)) (now (home .entry)) (now (hardware .entry)) (now (queues .exit)) (now (regions .entry))) ≡ performed (Send sender c) (tables (now (head .entry)) (now (home .entry)) (now (hardware .entry)) (now (queues .entry)) (now (regions .entry))) ⌝ }
+    requires { ⌜ (Sized (lent head home hardware queues regions)) × (sound (lent head home hardware queues regions) ≡ true) ⌝ }
+    ensures { λ r. ⌜ answering r (after head home hardware queues regions) []
+        ≡ performed (Send sender c) (before head home hardware queues regions) [] ⌝ }
 {
     let unknown = !c.is_well_formed();
     if unknown {
@@ -117,7 +120,8 @@ pub fn broadcast_remote_command(
     queues: &mut [u64],
     regions: &[u64],
 ) -> Answer
-    ensures { λ r. ⌜ outcome r (tables (now (head .entry)) (now (home .entry)) (now (hardware .entry)) (now (queues .exit)) (now (regions .entry))) ≡ performed (Send sender c) (tables (now (head .entry)) (now (home .entry)) (now (hardware .entry)) (now (queues .entry)) (now (regions .entry))) ⌝ }
+    ensures { λ r. ⌜ answering r (after head home hardware queues regions) []
+        ≡ performed (Send sender c) (before head home hardware queues regions) [] ⌝ }
 {
     let unsound = !sound_tables::are_tables_sound(head, home, hardware, queues, regions);
     if unsound {

@@ -9,7 +9,7 @@ use borrow.Rule.Slice.PartMut.{putMid}
 use Rattle.table_rows.specs.Rows.{put, rowsOf, over}
 use Rattle.table_rows.proofs.RunLaws.{run-next}
 use Rattle.confidential_hart.specs.declared.ConfidentialHart.{ConfidentialHart}
-use Rattle.hart_rows.specs.Rows.{hartWords, toWords}
+use Rattle.hart_rows.specs.HartRows.{hartWords, toWords}
 use Rattle.hart_rows.proofs.HartRowLaws.{to-length}
 
 -- the records that f gives, in the first n rows

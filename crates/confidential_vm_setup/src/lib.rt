@@ -9,10 +9,10 @@ ghost use mathlib.Core.List.{[], _∷_};
 ghost use lib.ListN.{length, replicate};
 ghost use Rattle.table_rows.specs.Rows.{rowsOf, over};
 ghost use Rattle.confidential_hart.specs.Hart.{dummy};
-ghost use Rattle.hart_rows.specs.Rows.{hartWords, toWords};
-ghost use Rattle.monitor_requests.specs.declared.Request.the-variants as request;
-ghost use Rattle.monitor_requests.specs.Tables.{tables, maxHarts, headWords, Long};
-ghost use Rattle.monitor_requests.specs.Requests.{outcome, performed, setupHart, fresh};
+ghost use Rattle.hart_rows.specs.HartRows.{hartWords, toWords};
+ghost use Rattle.monitor_requests.specs.Tables.{maxHarts, headWords, Long};
+ghost use Rattle.monitor_requests.specs.LentTables.{lent, before, after};
+ghost use Rattle.monitor_requests.specs.Requests.{answering, setUp, setupHart, fresh};
 use confidential_hart::ConfidentialHart;
 use confidential_hart::ConfidentialHartId;
 use confidential_hart::HardwareHartId;
@@ -99,8 +99,8 @@ fn write(
     queues: &mut [u64],
     regions: &mut [u64],
 )
-    requires { ⌜ (setup .harts ≤ maxHarts) × Long (tables (now head) (now home) (now hardware) (now queues) (now regions)) (setup .harts) (setup .hardware) ⌝ }
-    ensures { λ _. ⌜ tables (now (head .exit)) (now (home .exit)) (now (hardware .exit)) (now (queues .exit)) (now (regions .exit)) ≡ fresh setup (tables (now (head .entry)) (now (home .entry)) (now (hardware .entry)) (now (queues .entry)) (now (regions .entry))) ⌝ }
+    requires { ⌜ (setup .harts ≤ maxHarts) × Long (lent head home hardware queues regions) (setup .harts) (setup .hardware) ⌝ }
+    ensures { λ _. ⌜ after head home hardware queues regions ≡ fresh setup (before head home hardware queues regions) ⌝ }
 {
     let commands = setup.harts as usize * QUEUE_WORDS;
     set_head(head, setup.harts, setup.hardware);
@@ -119,7 +119,8 @@ pub fn new(
     queues: &mut [u64],
     regions: &mut [u64],
 ) -> Answer
-    ensures { λ r. ⌜ outcome r (tables (now (head .exit)) (now (home .exit)) (now (hardware .exit)) (now (queues .exit)) (now (regions .exit))) ≡ performed (request.Setup setup) (tables (now (head .entry)) (now (home .entry)) (now (hardware .entry)) (now (queues .entry)) (now (regions .entry))) ⌝ }
+    ensures { λ r. ⌜ answering r (after head home hardware queues regions) []
+        ≡ setUp setup (before head home hardware queues regions) ⌝ }
 {
     let in_range = sound_tables::are_counts_in_range(setup.harts, setup.hardware);
     let out_of_range = !(in_range & (setup.boot < setup.harts));

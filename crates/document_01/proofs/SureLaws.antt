@@ -7,78 +7,66 @@ use lib.Dec.{eqb}
 use borrow.Author.Tests.{not-true, eqb-true}
 use Rattle.table_rows.specs.Lists.{allOf}
 use Rattle.table_rows.proofs.PickLaws.{and-left, and-right}
-use Rattle.monitor_requests.specs.declared.Setup as declared
-use Rattle.monitor_requests.specs.declared.Request.the-variants.{Setup}
+use Rattle.monitor_requests.specs.declared.Setup.{Setup}
 use Rattle.monitor_requests.specs.declared.Answer.the-variants.{Done}
 use Rattle.monitor_requests.specs.Tables.{Tables, sound}
-use Rattle.monitor_requests.specs.Requests.{Outcome, effect, performed}
+use Rattle.monitor_requests.specs.Requests.{Outcome, setUp}
 use Rattle.monitor_requests.proofs.AnswerLaws.{isRefused}
 use Rattle.monitor_requests.proofs.SetupLaws.{setup-sound}
-use Rattle.monitor_requests.proofs.JudgedLaws.{by-performed}
-use Rattle.flow_requests.specs.declared.FlowRequest.{FlowRequest}
-use Rattle.flow_requests.specs.FlowRequests.{FlowOutcome}
-use Rattle.flow_requests.proofs.FlowLaws.{plain-is, isFlowSetup, flow-sound}
-use Rattle.flow_requests.proofs.SureLaws.{sure, sure-is}
-use Rattle.ledger.specs.Example.{room, effectsRoom}
-use Rattle.document_01.specs.Cases.{Case, Seen, told, Played, andThen, step, play, setUp, seen}
+use Rattle.monitor_requests.proofs.RequestLaws.{by-set-up, performed-sound}
+use Rattle.monitor_requests.specs.declared.Request.{Request}
+use Rattle.monitor_requests.proofs.SureLaws.{sure, sure-is}
+use Rattle.ledger.specs.Example.{room}
+use Rattle.document_01.specs.Cases.{Case, Seen, told, Played, andThen, step, play, begun, seen}
 
 -- ---- a case
 
 -- one request more
-abbrev sureStep : Played → FlowRequest → Played
+abbrev sureStep : Played → Request → Played
 sureStep p r = andThen (p .text) (sure r (p .after) (p .effects))
 
 -- requests one after the other
-abbrev pub surePlay : Played → List FlowRequest → Played
+abbrev pub surePlay : Played → List Request → Played
 surePlay p [] = p
 surePlay p (r ∷ rs) = surePlay (sureStep p r) rs
 
--- none of the requests is a setup
-abbrev pub noSetup : List FlowRequest → Bool
-noSetup rs = allOf (λ r. not (isFlowSetup r)) rs
-
-play-is : (rs : List FlowRequest) (p : Played) → noSetup rs ≡ true → sound (p .after) ≡ true → play p rs ≡ surePlay p rs
-unfolding allOf
-play-is [] p others s = refl
-play-is (r ∷ rs) p others s =
-    play-is rs (step p r) (and-right (not (isFlowSetup r)) (noSetup rs) others) (flow-sound r (p .after) (p .effects) s)
-    ∙ ap (λ (o : FlowOutcome). surePlay (andThen (p .text) o) rs) (sure-is r (p .after) (p .effects) (not-true _ (and-left (not (isFlowSetup r)) (noSetup rs) others)) s)
+play-is : (rs : List Request) (p : Played) → sound (p .after) ≡ true → play p rs ≡ surePlay p rs
+play-is [] p s = refl
+play-is (r ∷ rs) p s =
+    play-is rs (step p r) (performed-sound r (p .after) (p .effects) s)
+    ∙ ap (λ (o : Outcome). surePlay (andThen (p .text) o) rs) (sure-is r (p .after) (p .effects) s)
 
 -- what a case prints and leaves
 abbrev pub sureSeen : Case → Seen
 sureSeen c =
     record {
-      printed = surePlay (setUp (c .setup)) (c .requests) .text;
-      shown = c .look (surePlay (setUp (c .setup)) (c .requests) .after);
+      printed = surePlay (begun (c .setup)) (c .requests) .text;
+      shown = c .look (surePlay (begun (c .setup)) (c .requests) .after);
     }
 
 -- a setup that is not refused is done
-setup-done : (s : declared.Setup) (t : Tables) → isRefused (performed (Setup s) t .answer) ≡ false → performed (Setup s) t .answer ≡ Done
-unfolding effect
+setup-done : (s : Setup) (t : Tables) → isRefused (setUp s t .answer) ≡ false → setUp s t .answer ≡ Done
 setup-done s t =
-    by-performed (Setup s) t (λ (o : Outcome). isRefused (o .answer) ≡ false → o .answer ≡ Done) (λ e r. cc) (λ passed r. refl)
+    by-set-up s t (λ (o : Outcome). isRefused (o .answer) ≡ false → o .answer ≡ Done) (λ e other r. cc) (λ a r. refl)
 
--- the setup is accepted, and no other request is one
+-- the setup is accepted
 abbrev pub proper : Case → Bool
-proper c = not (isRefused (performed (Setup (c .setup)) (room (c .setup)) .answer)) && noSetup (c .requests)
+proper c = not (isRefused (setUp (c .setup) (room (c .setup)) .answer))
 
 module _ (c : Case) (p : proper c ≡ true) where
-  accepts : performed (Setup (c .setup)) (room (c .setup)) .answer ≡ Done
+  accepts : setUp (c .setup) (room (c .setup)) .answer ≡ Done
   accepts =
       setup-done (c .setup) (room (c .setup))
-      (not-true _ (and-left (not (isRefused (performed (Setup (c .setup)) (room (c .setup)) .answer))) (noSetup (c .requests)) p))
+      (not-true _ p)
 
-  ready : sound (setUp (c .setup) .after) ≡ true
-  ready =
-      ap (λ (o : FlowOutcome). sound (o .after)) (plain-is (Setup (c .setup)) (room (c .setup)) effectsRoom)
-      ∙ setup-sound (c .setup) (room (c .setup)) accepts
+  ready : sound (begun (c .setup) .after) ≡ true
+  ready = setup-sound (c .setup) (room (c .setup)) accepts
 
   -- what it prints and leaves is what is computed
   seen-is : seen c ≡ sureSeen c
   seen-is =
       ap (λ (x : Played). record { printed = x .text; shown = c .look (x .after) })
-      (play-is (c .requests) (setUp (c .setup))
-      (and-right (not (isRefused (performed (Setup (c .setup)) (room (c .setup)) .answer))) (noSetup (c .requests)) p) ready)
+      (play-is (c .requests) (begun (c .setup)) ready)
 
 -- ---- a table
 

@@ -16,12 +16,10 @@ use Rattle.hart_lifecycle_state.specs.Lifecycle.{only}
 use Rattle.confidential_hart.specs.Hart as hart
 use Rattle.confidential_hart.specs.HartStart.{startRegisters}
 use Rattle.confidential_hart.specs.Transition.{applied, transition}
-use Rattle.hart_rows.specs.Rows.{toWords, hartAt}
+use Rattle.hart_rows.specs.HartRows.{toWords, hartAt}
 use Rattle.monitor_requests.specs.Tables.{longEnough}
-use Rattle.monitor_requests.specs.Requests.{refuses, receives, deliver, tests, effect, performed}
-use Rattle.monitor_requests.specs.declared.Request.the-variants.{Setup}
-use Rattle.flow_requests.specs.declared.FlowRequest.the-variants.{Plain}
-use Rattle.flow_requests.specs.FlowRequests.{didRows, ownCommands, goesOn, flowTests, flowEffect, flowPerformed}
+use Rattle.monitor_requests.specs.Requests.{refuses, receives, deliver, tests, effect, performed, setUp, setupTests, didRows, ownCommands, goesOn}
+use Rattle.trace_requests.specs.declared.TraceLine.the-variants.{SetUp, Ask}
 use Rattle.trace_text.specs.Text.{bytes, digits}
 use Rattle.trace_requests.specs.Lines.{spelling}
 use Rattle.trace_answers.specs.Printed.{answerLine, printed}
@@ -31,12 +29,12 @@ use Rattle.document_01.proofs.SureLaws.{proper, asTold, all-seen}
 
 -- each case may be computed
 all-proper : allOf proper cases ≡ true
-unfolding cases every pick hart.wellFormed hartAt toWords row wordAt put rowsOf commands commandAt upTo allOf anyOf queued wellFormed same inHartList selects setBit clearBit pushed emptied withOffered offered effectsOf shutsDown startRegisters applied transition refuses receives deliver tests effect performed only flowTests flowEffect flowPerformed didRows ownCommands goesOn digits printed answerLine standing wordsOf laid withRemoved longEnough
+unfolding cases every pick hart.wellFormed hartAt toWords row wordAt put rowsOf commands commandAt upTo allOf anyOf queued wellFormed same inHartList selects setBit clearBit pushed emptied withOffered offered effectsOf shutsDown startRegisters applied transition refuses receives deliver tests effect performed setUp setupTests only didRows ownCommands goesOn digits printed answerLine standing wordsOf laid withRemoved longEnough
 all-proper = refl
 
 -- each case is as told, by computation
 all-told : allOf asTold cases ≡ true
-unfolding cases every pick hart.wellFormed hartAt toWords row wordAt put rowsOf commands commandAt upTo allOf anyOf queued wellFormed same inHartList selects setBit clearBit pushed emptied withOffered offered effectsOf shutsDown startRegisters applied transition refuses receives deliver tests effect performed only flowTests flowEffect flowPerformed didRows ownCommands goesOn digits printed answerLine standing wordsOf laid withRemoved longEnough
+unfolding cases every pick hart.wellFormed hartAt toWords row wordAt put rowsOf commands commandAt upTo allOf anyOf queued wellFormed same inHartList selects setBit clearBit pushed emptied withOffered offered effectsOf shutsDown startRegisters applied transition refuses receives deliver tests effect performed setUp setupTests only didRows ownCommands goesOn digits printed answerLine standing wordsOf laid withRemoved longEnough
 all-told = refl
 
 -- P1 to P9: of each case, what the definitions print and leave is what document 01 says
@@ -44,7 +42,7 @@ pub document-01 : map seen cases ≡ map told cases
 document-01 = all-seen cases all-proper all-told
 
 -- the lines of P1, byte for byte
-pub p1-lines : lines (Plain (Setup p1-setup) ∷ p1-requests)
+pub p1-lines : lines (SetUp p1-setup ∷ map Ask p1-requests)
     ≡ bytes
     "setup\t2\t2\t0\t4096\t8192\t0\t0\nsteal\t0\t0\nsteal\t0\t1\nsteal\t1\t1\nstart\t1\t64\t7\nbroadcast\t0\t1\t3\t0\t0\t0\t0\nsteal\t1\t1\nbroadcast\t0\t1\t3\t0\t0\t0\t0\nresume\t1\nreturn\t0\n"
 unfolding spelling digits pick

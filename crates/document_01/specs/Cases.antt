@@ -9,14 +9,14 @@ use Rattle.confidential_hart_remote_command.specs.Command.{ipi, toWords}
 use Rattle.confidential_hart_remote_command.specs.Selection.{selects}
 use Rattle.remote_commands.specs.Queue.{count, commandAt}
 use Rattle.mmio_regions.specs.Table.{wordsOf}
-use Rattle.monitor_requests.specs.declared.Setup as declared
-use Rattle.monitor_requests.specs.declared.Request.the-variants.{Setup}
+use Rattle.monitor_requests.specs.declared.Setup.{Setup}
+use Rattle.monitor_requests.specs.FromNumbers.{setupOf, commandOf}
+use Rattle.monitor_requests.specs.Requests.{setUp, Outcome, replyIn, withRoom, performed}
 use Rattle.monitor_requests.specs.Tables.{Tables, homeHart, queue, regionsOf}
-use Rattle.flow_requests.specs.declared.FlowRequest.{FlowRequest}
-use Rattle.flow_requests.specs.declared.FlowRequest.the-variants.{Plain}
-use Rattle.flow_requests.specs.FlowRequests.{FlowOutcome, answerIn, flowPerformed}
-use Rattle.ledger.specs.Example.{setup, steal, return, start, stop, add, remove, command, send, fence, room, effectsRoom, p1-setup, p1-requests}
+use Rattle.monitor_requests.specs.declared.Request.{Request}
+use Rattle.ledger.specs.Example.{steal, return, start, stop, add, remove, send, fence, room, effectsRoom, p1-setup, p1-requests}
 use Rattle.trace_text.specs.Text.{bytes, lineEnd}
+use Rattle.trace_requests.specs.declared.TraceLine.{TraceLine}
 use Rattle.trace_requests.specs.Lines.{lineOf}
 use Rattle.trace_answers.specs.Printed.{printed}
 
@@ -24,8 +24,8 @@ use Rattle.trace_answers.specs.Printed.{printed}
 
 -- a setup and requests, what document 01 says is printed for them, what is looked at in the tables afterwards, and what it says stands there
 pub record Case : Type 0 where
-  pub setup : declared.Setup
-  pub requests : List FlowRequest
+  pub setup : Setup
+  pub requests : List Request
   pub prints : List ℕ
   pub look : Tables → List ℕ
   pub shows : List ℕ
@@ -46,34 +46,34 @@ pub record Played : Type 0 where
   pub effects : List ℕ
 
 -- an outcome is printed after what was printed before
-abbrev pub andThen : List ℕ → FlowOutcome → Played
-andThen text o = record { text = text ++ printed (answerIn o) (o .effects); after = o .after; effects = o .effects }
+abbrev pub andThen : List ℕ → Outcome → Played
+andThen text o = record { text = text ++ printed (replyIn o) (o .effects); after = o .after; effects = o .effects }
 
 -- one request more
-abbrev pub step : Played → FlowRequest → Played
-step p r = andThen (p .text) (flowPerformed r (p .after) (p .effects))
+abbrev pub step : Played → Request → Played
+step p r = andThen (p .text) (performed r (p .after) (p .effects))
 
 -- requests one after the other
-abbrev pub play : Played → List FlowRequest → Played
+abbrev pub play : Played → List Request → Played
 play p [] = p
 play p (r ∷ rs) = play (step p r) rs
 
 -- a setup on tables that are all 0
-abbrev pub setUp : declared.Setup → Played
-setUp s = andThen [] (flowPerformed (Plain (Setup s)) (room s) effectsRoom)
+abbrev pub begun : Setup → Played
+begun s = andThen [] (withRoom effectsRoom (setUp s (room s)))
 
 -- what the definitions print and leave
 abbrev pub seen : Case → Seen
-seen c = record { printed = play (setUp (c .setup)) (c .requests) .text; shown = c .look (play (setUp (c .setup)) (c .requests) .after) }
+seen c = record { printed = play (begun (c .setup)) (c .requests) .text; shown = c .look (play (begun (c .setup)) (c .requests) .after) }
 
 -- ---- requests
 
 -- n different fences, sent by no hart
-abbrev pub fences : ℕ → ℕ → List FlowRequest
+abbrev pub fences : ℕ → ℕ → List Request
 fences mask n = upTo (λ i. send 9 (fence mask i)) n
 
 -- the lines of requests
-abbrev pub lines : List FlowRequest → List ℕ
+abbrev pub lines : List TraceLine → List ℕ
 lines [] = []
 lines (r ∷ rs) = lineOf r ++ (lineEnd ∷ lines rs)
 
@@ -99,12 +99,12 @@ selected c (suc n) = selected c n ++ pick (selects c n) (n ∷ []) []
 -- ---- the table
 
 -- a case, in the order of its fields
-abbrev pub case : declared.Setup → List FlowRequest → List ℕ → (Tables → List ℕ) → List ℕ → Case
+abbrev pub case : Setup → List Request → List ℕ → (Tables → List ℕ) → List ℕ → Case
 case s requests prints look shows = record { setup = s; requests = requests; prints = prints; look = look; shows = shows }
 
 -- one hart and one hardware hart
-abbrev pub single : declared.Setup
-single = setup 1 1 0 0 0 0 0
+abbrev pub single : Setup
+single = setupOf 1 1 0 0 0 0 0
 
 -- the same text n times
 abbrev pub times : ℕ → List ℕ → List ℕ
@@ -134,10 +134,10 @@ cases =
     -- P5 base 2^64 − 1: size 0 added, size 1 is 11
     ∷ case single (add last 0 ∷ add last 1 ∷ []) (bytes "0\n0\n11\n") regions (last ∷ last ∷ [])
     -- P6 mask 1 base 63 selects 63 only; mask 2^63 base 1 selects 64 only
-    ∷ case single [] (bytes "0\n") (λ t. selected (command ipi 1 63 0 0 0) 1024) (63 ∷ [])
-    ∷ case single [] (bytes "0\n") (λ t. selected (command ipi 9223372036854775808 1 0 0 0) 1024) (64 ∷ [])
+    ∷ case single [] (bytes "0\n") (λ t. selected (commandOf ipi 1 63 0 0 0) 1024) (63 ∷ [])
+    ∷ case single [] (bytes "0\n") (λ t. selected (commandOf ipi 9223372036854775808 1 0 0 0) 1024) (64 ∷ [])
     -- P7 start on vsstatus 7 leaves 5, mstatus 549755815938
-    ∷ case (setup 1 1 0 0 0 0 7) (steal 0 0 ∷ stop 0 ∷ return 0 ∷ start 0 64 9 ∷ []) (bytes "0\n0\t0\n0\n0\n0\n")
+    ∷ case (setupOf 1 1 0 0 0 0 7) (steal 0 0 ∷ stop 0 ∷ return 0 ∷ start 0 64 9 ∷ []) (bytes "0\n0\t0\n0\n0\n0\n")
     (λ t. homeHart t 0 .registers)
     (0 ∷ 9 ∷ 64 ∷ 0 ∷ 549755815938 ∷ 5 ∷ [])
     -- P8 a queue of 63 takes one more; a duplicate leaves 63; at 64 it is 8
@@ -148,7 +148,7 @@ cases =
     (λ t. waiting 0 t ∷ [])
     (64 ∷ [])
     -- P9 Started harts 1, 2, 3 selected, only 2 full: hart 1 keeps the command, 3 lacks it
-    ∷ case (setup 4 1 0 0 0 0 0) (start 1 0 0 ∷ start 2 0 0 ∷ start 3 0 0 ∷ (fences 4 64 ++ (send 0 (command ipi 14 0 0 0 0) ∷ [])))
+    ∷ case (setupOf 4 1 0 0 0 0 0) (start 1 0 0 ∷ start 2 0 0 ∷ start 3 0 0 ∷ (fences 4 64 ++ (send 0 (commandOf ipi 14 0 0 0 0) ∷ [])))
     (bytes "0\n0\n0\n0\n" ++ (times 64 (bytes "0\t0\n") ++ bytes "8\n"))
     (λ t. waiting 1 t ∷ waiting 2 t ∷ waiting 3 t ∷ toWords (commandAt (queue t 1) 0))
     (1 ∷ 64 ∷ 0 ∷ 1 ∷ 14 ∷ 0 ∷ 0 ∷ 0 ∷ 0 ∷ [])

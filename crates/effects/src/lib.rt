@@ -39,7 +39,8 @@ pub fn execute(hart: u64, c: ConfidentialHartRemoteCommand, effects: &mut [u64],
 // A hart does every command of its queue in order. Gives whether it is to be powered off.
 pub fn execute_all(hart: u64, queue: &[u64], effects: &mut [u64]) -> bool
     requires { ⌜ (length (now queue) ≡ queueWords) × (count (now queue) ≤ maxCommands) × (maxCommands * effectWords ≤ length (now effects)) ⌝ }
-    ensures { λ r. ⌜ (r ≡ shutsDown (commands (now (queue .entry)))) × (now (effects .exit) ≡ over (effectsOf hart (commands (now (queue .entry)))) (now (effects .entry))) ⌝ }
+    ensures { λ r. ⌜ (r ≡ shutsDown (commands (now (queue .entry))))
+        × (now (effects .exit) ≡ over (effectsOf hart (commands (now (queue .entry)))) (now (effects .entry))) ⌝ }
 {
     let n = queue[0] as usize;
     let mut off = false;

@@ -3,12 +3,11 @@ ghost use mathlib.Core.Path.{_≡_};
 ghost use mathlib.Core.List.{[], _∷_};
 ghost use Prim.Native.Nat.{_≤_};
 ghost use lib.ListN.{length};
-ghost use Rattle.error.specs.Error.{done};
 ghost use Rattle.table_rows.specs.Choice.{pick};
-ghost use Rattle.table_rows.specs.Rows.{over};
-ghost use Rattle.monitor_requests.specs.Answers.{op};
-ghost use Rattle.export_values.specs.Exports.{valueWords, written, told};
+ghost use Rattle.monitor_requests.specs.Answers.{wordValues};
+ghost use Rattle.export_values.specs.Exports.{valueWords, Fronted, written, told};
 use monitor_requests::Answer;
+use monitor_requests::Word;
 
 // The first value of an answer that says what a hart goes on with.
 const RUN: u64 = 0;
@@ -27,41 +26,39 @@ pub fn word_of(flag: bool) -> u64
     0
 }
 
-// Writes a value, and gives 0.
-fn tell_value(word: u64, value: &mut [u64]) -> u64
+// Writes a value over the front, and gives 1, the place after it.
+fn tell_value(word: u64, value: &mut [u64]) -> usize
     requires { ⌜ valueWords ≤ length (now value) ⌝ }
-    ensures { λ r. ⌜ written r (now (value .exit)) ≡ written done (over (word ∷ []) (now (value .entry))) ⌝ }
+    ensures { λ r. ⌜ Fronted (word ∷ []) (now (value .entry)) r (now (value .exit)) ⌝ }
 {
     value[0] = word;
-    error::DONE
+    1
 }
 
-// Writes what says that an operation is over, its kind and its two numbers, and gives 0.
-fn tell_operation(kind: u64, x: u64, y: u64, value: &mut [u64]) -> u64
+// Writes the value of a word, if it is one, over the front, and gives the place after it.
+fn tell_word(word: Word, value: &mut [u64]) -> usize
     requires { ⌜ valueWords ≤ length (now value) ⌝ }
-    ensures { λ r. ⌜ written r (now (value .exit)) ≡ written done (over (op ∷ kind ∷ x ∷ y ∷ []) (now (value .entry))) ⌝ }
+    ensures { λ r. ⌜ Fronted (wordValues word) (now (value .entry)) r (now (value .exit)) ⌝ }
 {
-    value[0] = OP;
-    value[1] = kind;
-    value[2] = x;
-    value[3] = y;
-    error::DONE
+    match word {
+        Word::NoWord => 0,
+        Word::Run => tell_value(RUN, value),
+        Word::Off => tell_value(OFF, value),
+        Word::Op => tell_value(OP, value),
+    }
 }
 
-// Writes the values of an answer, and gives its number.
+// Writes the values of an answer over the front, and gives its number.
 pub fn tell(answer: Answer, value: &mut [u64]) -> u64
     requires { ⌜ valueWords ≤ length (now value) ⌝ }
     ensures { λ r. ⌜ written r (now (value .exit)) ≡ told answer (now (value .entry)) ⌝ }
 {
-    match answer {
-        Answer::Refused(e) => e.number(),
-        Answer::Done => error::DONE,
-        Answer::Mask(mask) => tell_value(mask, value),
-        Answer::State(state) => tell_value(state, value),
-        Answer::Flag(flag) => tell_value(word_of(flag), value),
-        Answer::Count(count) => tell_value(count, value),
-        Answer::Run => tell_value(RUN, value),
-        Answer::PoweredOff => tell_value(OFF, value),
-        Answer::Operation(kind, x, y) => tell_operation(kind, x, y, value),
-    }
+    let told = answer.told();
+    let word = told.word;
+    let count = told.count;
+    let details = told.details;
+    let at = tell_word(word, value);
+    let end = at + count;
+    table_rows::copy(&details[..count], &mut value[at..end]);
+    told.number
 }

@@ -8,7 +8,7 @@ use Rattle.table_rows.specs.Rows.{row, put, wordAt}
 use Rattle.table_rows.proofs.RowLaws.{words-all, row-length, row-put-same, row-put-other}
 use Rattle.confidential_hart.specs.declared.ConfidentialHart.{ConfidentialHart}
 use Rattle.confidential_hart.specs.Hart.{registerCount, hartOf, wellFormed}
-use Rattle.hart_rows.specs.Rows.{vmWord, idWord, lifecycleWord, operationWord, xWord, yWord, registerWord, hartWords, fromWords, toWords, hartAt}
+use Rattle.hart_rows.specs.HartRows.{vmWord, idWord, lifecycleWord, operationWord, xWord, yWord, registerWord, hartWords, fromWords, toWords, hartAt}
 
 pub to-length : (h : ConfidentialHart) → length (toWords h) ≡ hartWords
 unfolding toWords

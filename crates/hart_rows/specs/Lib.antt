@@ -1,2 +1,2 @@
 -- The definitions that the contracts of `hart_rows` cite.
-pub mod Rows
+pub mod HartRows

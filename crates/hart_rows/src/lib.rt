@@ -4,7 +4,7 @@ ghost use Prim.Native.Nat.{_+_, _*_, _≤_};
 ghost use lib.ListN.{length, getD};
 ghost use Rattle.table_rows.specs.Rows.{put};
 ghost use Rattle.confidential_hart.specs.Hart.{wellFormed};
-ghost use Rattle.hart_rows.specs.Rows.{vmWord, hartWords, toWords, fromWords, hartAt};
+ghost use Rattle.hart_rows.specs.HartRows.{vmWord, hartWords, toWords, fromWords, hartAt};
 use confidential_hart::A0;
 use confidential_hart::A1;
 use confidential_hart::ConfidentialHart;

@@ -1,7 +1,7 @@
 -- Where each hart of the tables stands and its record there: what tables hold, as far as a log can tell. Assumes nothing.
 use Prim.Native.Nat.{ℕ, _<_}
 use mathlib.Core.Path.{_≡_}
-use mathlib.Core.Bool.{Bool, true, false}
+use mathlib.Core.Bool.{Bool}
 use mathlib.Core.List.{List}
 use Rattle.table_rows.specs.Choice.{pick}
 use Rattle.confidential_vm_mmio_region.specs.declared.ConfidentialVmMmioRegion.{ConfidentialVmMmioRegion}
@@ -10,13 +10,13 @@ use Rattle.remote_commands.specs.Queue.{commands}
 use Rattle.confidential_hart.specs.declared.ConfidentialHart.{ConfidentialHart}
 use Rattle.confidential_hart.specs.Hart.{isDummy}
 use Rattle.monitor_requests.specs.declared.Answer.{Answer}
-use Rattle.monitor_requests.specs.declared.Answer.the-variants.{Refused, Done, Mask, State, Flag, Count, Run, PoweredOff, Operation}
+use Rattle.monitor_requests.specs.Answers.{given, isOp}
 use Rattle.monitor_requests.specs.Tables.{Tables, harts, hardwareHarts, allowed, homeHart, hardwareHart, queue, regionsOf}
-use Rattle.hart_standing.specs.Standing.{Standing, atHome, on}
+use Rattle.hart_standing.specs.Standing.{Standing, atHome, onHardware}
 
 -- where the tables say that hart h stands: a dummy in its home row names the hardware hart
 abbrev pub standing : Tables → ℕ → Standing
-standing t h = pick (isDummy (homeHart t h)) (on (homeHart t h .id)) atHome
+standing t h = pick (isDummy (homeHart t h)) (onHardware (homeHart t h .id)) atHome
 
 -- its record there
 abbrev pub hartNow : Tables → ℕ → ConfidentialHart
@@ -58,12 +58,4 @@ pub record Holds (t : Tables) (n m : ℕ) (v : View) : Type 0 where
 
 -- the answer is an operation
 abbrev pub isTaken : Answer → Bool
-isTaken (Refused e) = false
-isTaken Done = false
-isTaken (Mask mask) = false
-isTaken (State state) = false
-isTaken (Flag flag) = false
-isTaken (Count count) = false
-isTaken Run = false
-isTaken PoweredOff = false
-isTaken (Operation kind x y) = true
+isTaken a = isOp (given a .word)

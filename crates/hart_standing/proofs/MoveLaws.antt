@@ -3,7 +3,7 @@ use Prim.Native.Nat.{ℕ, _<_}
 use mathlib.Core.Path.{_≡_, refl, sym, ap, ap₂, _∙_}
 use mathlib.Core.Logic.{_≢_}
 use mathlib.Core.Bool.{Bool, true, false, false≢true}
-use mathlib.Core.List.{List, []}
+use mathlib.Core.List.{List, [], _∷_}
 use lib.ListN.{length}
 use lib.Dec.{eqb}
 use borrow.Author.Tests.{eq-eqb, ne-eqb, eqb-true, eqb-false, leb-false, not-false}
@@ -25,19 +25,18 @@ use Rattle.confidential_hart.specs.HartStart.{startRegisters, wakeRegisters}
 use Rattle.confidential_hart.specs.Transition.{moved, transition}
 use Rattle.confidential_hart.proofs.StartLaws.{start-length, wake-length}
 use Rattle.confidential_hart.proofs.TransitionLaws.{moves-is}
-use Rattle.hart_rows.specs.Rows.{hartWords, toWords, hartAt}
+use Rattle.hart_rows.specs.HartRows.{hartWords, toWords, hartAt}
 use Rattle.hart_rows.proofs.HartRowLaws.{load-store, load-store-other}
-use Rattle.monitor_requests.specs.declared.Setup as declared
-use Rattle.monitor_requests.specs.declared.Request.the-variants.{Setup, Steal, Return, Start, Suspend, Stop, Wake, Off, Await}
+use Rattle.monitor_requests.specs.declared.Setup.{Setup}
+use Rattle.monitor_requests.specs.declared.Request.the-variants.{Steal, Return, Start, Suspend, Stop, Wake, Off, Await}
 use Rattle.monitor_requests.specs.declared.Answer.the-variants.{Done}
 use Rattle.monitor_requests.specs.Tables.{Tables, harts, hardwareHarts, homeHart, hardwareHart, queue, sound}
-use Rattle.monitor_requests.specs.Requests.{refuses, withHome, withHeld, exchanged, setupHart, tests, effect, performed}
+use Rattle.monitor_requests.specs.Requests.{refuses, withHome, withHeld, exchanged, setupHart, setUp, unsound, tests, effect, heldId}
 use Rattle.monitor_requests.proofs.JudgedLaws.{Passed}
-use Rattle.monitor_requests.proofs.SoundLaws.{sound-sized, home-formed, hardware-formed, away-names, held-names, sound-paragraph}
+use Rattle.monitor_requests.proofs.SoundLaws.{sound-sized, home-formed, hardware-formed, away-names, held-names, sound-sentences}
 use Rattle.monitor_requests.proofs.MoveLaws.{Exchange, exchange, home-fits, six-registers}
 use Rattle.monitor_requests.proofs.SetupLaws.{setup-vm, setup-rows}
-use Rattle.flow_requests.specs.FlowRequests.{heldId}
-use Rattle.hart_standing.specs.Standing.{Standing, atHome, on, isOn}
+use Rattle.hart_standing.specs.Standing.{Standing, atHome, onHardware, isOn}
 use Rattle.hart_standing.proofs.ChangedLaws.{standing, hartNow, View, view, viewOf, standingAt, having, Holds}
 use Rattle.hart_standing.proofs.StandLaws.{
   dummy-stands,
@@ -53,7 +52,7 @@ use Rattle.hart_standing.proofs.StandLaws.{
 
 -- where the hart stands whose home row holds the record
 abbrev standingBy : ConfidentialHart → Standing
-standingBy x = pick (isDummy x) (on (x .id)) atHome
+standingBy x = pick (isDummy x) (onHardware (x .id)) atHome
 
 -- its record, with these hardware rows
 abbrev hartBy : List ℕ → ConfidentialHart → ConfidentialHart
@@ -105,10 +104,10 @@ module _ (t : Tables) (s : sound t ≡ true) (h k : ℕ) (lh : h < harts t) (lk 
 
   -- a real hart at home goes to an idle hardware hart
   left-holds : isDummy (homeHart t h) ≡ false → isDummy (hardwareHart t k) ≡ true
-      → Holds after (harts t) (hardwareHarts t) (standingAt (λ i. pick (eqb h i) (on k) (standing t i)) (viewOf t))
+      → Holds after (harts t) (hardwareHarts t) (standingAt (λ i. pick (eqb h i) (onHardware k) (standing t i)) (viewOf t))
   unfolding pick
   left-holds real idle =
-      exchanged-holds (λ i. pick (eqb h i) (on k) (standing t i))
+      exchanged-holds (λ i. pick (eqb h i) (onHardware k) (standing t i))
       (ap standingBy (rows .h-holds ∙ idle-row t s k lk idle) ∙ yes _ (eq-eqb h h refl) refl)
       (dummy-now after h (ap isDummy (rows .h-holds) ∙ idle)
       ∙ ap (hardwareHart after) (ap (λ (x : ConfidentialHart). x .id) (rows .h-holds ∙ idle-row t s k lk idle))
@@ -132,20 +131,20 @@ module _ (t : Tables) (s : sound t ≡ true) (h k : ℕ) (lh : h < harts t) (lk 
       free
 
 -- a steal: the hart stands on the hardware hart
-pub steal-holds : (hart : ConfidentialHartId) (k : HardwareHartId) (t : Tables) → Passed (tests (Steal hart k) t)
-    → Holds (effect (Steal hart k) t .after) (harts t) (hardwareHarts t)
-    (standingAt (λ h. pick (eqb (hart .0) h) (on (k .0)) (standing t h)) (viewOf t))
+pub steal-holds : (hart : ConfidentialHartId) (k : HardwareHartId) (t : Tables) (effects : List ℕ) → Passed (unsound t ∷ tests (Steal hart k) t effects)
+    → Holds (effect (Steal hart k) t effects .after) (harts t) (hardwareHarts t)
+    (standingAt (λ h. pick (eqb (hart .0) h) (onHardware (k .0)) (standing t h)) (viewOf t))
 unfolding tests effect
-steal-holds hart k t p =
+steal-holds hart k t effects p =
     left-holds t (not-false _ (p .0)) (hart .0) (k .0) (leb-false _ _ (p .1 .1 .1 .0)) (leb-false _ _ (p .1 .0)) (p .1 .1 .1 .1 .0)
     (not-false _ (p .1 .1 .0))
 
 -- a return: the hart that stood on the hardware hart is at home
-pub return-holds : (k : HardwareHartId) (t : Tables) → Passed (tests (Return k) t)
-    → Holds (effect (Return k) t .after) (harts t) (hardwareHarts t)
+pub return-holds : (k : HardwareHartId) (t : Tables) (effects : List ℕ) → Passed (unsound t ∷ tests (Return k) t effects)
+    → Holds (effect (Return k) t effects .after) (harts t) (hardwareHarts t)
     (standingAt (λ h. pick (isOn (k .0) (standing t h)) atHome (standing t h)) (viewOf t))
 unfolding tests effect
-return-holds k t p =
+return-holds k t effects p =
     let s = not-false _ (p .0) in
     let l = leb-false _ _ (p .1 .0) in
     back-holds t s (heldId t (k .0)) (k .0) (held-names t s (k .0) l (p .1 .1 .0) .there) l (p .1 .1 .0) refl
@@ -226,14 +225,14 @@ module _ (t : Tables) (s : sound t ≡ true) (h : ℕ) (l : h < harts t) (real :
       }
 
 -- a start: the hart is Started, with the registers of a start
-pub start-holds : (hart : ConfidentialHartId) (address opaque : ℕ) (t : Tables) → Passed (tests (Start hart address opaque) t)
-    → Holds (effect (Start hart address opaque) t .after) (harts t) (hardwareHarts t)
+pub start-holds : (hart : ConfidentialHartId) (address opaque : ℕ) (t : Tables) (effects : List ℕ) → Passed (unsound t ∷ tests (Start hart address opaque) t effects)
+    → Holds (effect (Start hart address opaque) t effects .after) (harts t) (hardwareHarts t)
     (having
     (λ h. pick (eqb h (hart .0)) (moved started (startRegisters (hart .0) address opaque (hartNow t h .registers)) (hartNow t h)) (hartNow t h))
     (λ h. commands (queue t h))
     (viewOf t))
 unfolding tests effect
-start-holds hart address opaque t p =
+start-holds hart address opaque t effects p =
     let s : sound t ≡ true = not-false _ (p .0) in
     let l : hart .0 < harts t = leb-false _ _ (p .1 .0) in
     let real = p .1 .1 .0 in
@@ -241,8 +240,8 @@ start-holds hart address opaque t p =
     let registers : List ℕ = startRegisters (x .id) address opaque (x .registers) in
     let is = moved-is start hartAlreadyRunning started registers x (home-formed t s (hart .0) l) real (only-moves _ _ _ _ (p .1 .1 .1 .0)) in
     let now : x ≡ hartNow t (hart .0) = sym (real-now t (hart .0) real) in
-    let number : x .id ≡ hart .0 = sound-paragraph t s .home-real (hart .0) l real in
-    records-alike (effect (Start hart address opaque) t .after) (harts t) (hardwareHarts t) _ _ _ (viewOf t)
+    let number : x .id ≡ hart .0 = sound-sentences t s .home-real (hart .0) l real in
+    records-alike (effect (Start hart address opaque) t effects .after) (harts t) (hardwareHarts t) _ _ _ (viewOf t)
     (home-changed t s (hart .0) l real (transition start hartAlreadyRunning registers x .hart) (ap (λ (r : ConfidentialHart). r .vm) is)
     (ap (λ (r : ConfidentialHart). length (r .registers)) is
     ∙ start-length (x .id) address opaque (x .registers)
@@ -301,55 +300,55 @@ held-moves t s k l real change to f long e =
     (long (x .registers) ∙ six-registers (t .hardware) (k .0))
 
 -- a suspend: the hart that stands there is Suspended
-pub suspend-holds : (k : HardwareHartId) (t : Tables) → Passed (tests (Suspend k) t)
-    → Holds (effect (Suspend k) t .after) (harts t) (hardwareHarts t) (became k suspended (λ r. r) t)
+pub suspend-holds : (k : HardwareHartId) (t : Tables) (effects : List ℕ) → Passed (unsound t ∷ tests (Suspend k) t effects)
+    → Holds (effect (Suspend k) t effects .after) (harts t) (hardwareHarts t) (became k suspended (λ r. r) t)
 unfolding tests effect
-suspend-holds k t p =
+suspend-holds k t effects p =
     held-moves t (not-false _ (p .0)) k (leb-false _ _ (p .1 .0)) (p .1 .1 .0) suspend suspended (λ r. r) (λ _. refl)
     (only-moves _ _ _ _ (p .1 .1 .1 .0))
 
 -- a stop: it is Stopped
-pub stop-holds : (k : HardwareHartId) (t : Tables) → Passed (tests (Stop k) t)
-    → Holds (effect (Stop k) t .after) (harts t) (hardwareHarts t) (became k stopped (λ r. r) t)
+pub stop-holds : (k : HardwareHartId) (t : Tables) (effects : List ℕ) → Passed (unsound t ∷ tests (Stop k) t effects)
+    → Holds (effect (Stop k) t effects .after) (harts t) (hardwareHarts t) (became k stopped (λ r. r) t)
 unfolding tests effect
-stop-holds k t p =
+stop-holds k t effects p =
     held-moves t (not-false _ (p .0)) k (leb-false _ _ (p .1 .0)) (p .1 .1 .0) stop stopped (λ r. r) (λ _. refl)
     (only-moves _ _ _ _ (p .1 .1 .1 .0))
 
 -- a wake: it is Started, with the registers of a wake
-pub wake-holds : (k : HardwareHartId) (address opaque : ℕ) (t : Tables) → Passed (tests (Wake k address opaque) t)
-    → Holds (effect (Wake k address opaque) t .after) (harts t) (hardwareHarts t) (became k started (wakeRegisters address opaque) t)
+pub wake-holds : (k : HardwareHartId) (address opaque : ℕ) (t : Tables) (effects : List ℕ) → Passed (unsound t ∷ tests (Wake k address opaque) t effects)
+    → Holds (effect (Wake k address opaque) t effects .after) (harts t) (hardwareHarts t) (became k started (wakeRegisters address opaque) t)
 unfolding tests effect
-wake-holds k address opaque t p =
+wake-holds k address opaque t effects p =
     held-moves t (not-false _ (p .0)) k (leb-false _ _ (p .1 .0)) (p .1 .1 .0) wake started (wakeRegisters address opaque)
     (wake-length address opaque)
     (only-moves _ _ _ _ (p .1 .1 .1 .0))
 
 -- an off: it is PoweredOff
-pub off-holds : (k : HardwareHartId) (t : Tables) → Passed (tests (Off k) t)
-    → Holds (effect (Off k) t .after) (harts t) (hardwareHarts t) (became k poweredOff (λ r. r) t)
+pub off-holds : (k : HardwareHartId) (t : Tables) (effects : List ℕ) → Passed (unsound t ∷ tests (Off k) t effects)
+    → Holds (effect (Off k) t effects .after) (harts t) (hardwareHarts t) (became k poweredOff (λ r. r) t)
 unfolding tests effect
-off-holds k t p =
+off-holds k t effects p =
     held-moves t (not-false _ (p .0)) k (leb-false _ _ (p .1 .0)) (p .1 .1 .0) off poweredOff (λ r. r) (λ _. refl) refl
 
 -- an await: it has the operation
-pub await-holds : (k : HardwareHartId) (kind x y : ℕ) (t : Tables) → Passed (tests (Await k kind x y) t)
-    → Holds (effect (Await k kind x y) t .after) (harts t) (hardwareHarts t)
+pub await-holds : (k : HardwareHartId) (kind x y : ℕ) (t : Tables) (effects : List ℕ) → Passed (unsound t ∷ tests (Await k kind x y) t effects)
+    → Holds (effect (Await k kind x y) t effects .after) (harts t) (hardwareHarts t)
     (having (λ h. pick (isOn (k .0) (standing t h)) (withOperation kind x y (hartNow t h)) (hartNow t h))
     (λ h. commands (queue t h))
     (viewOf t))
 unfolding tests effect
-await-holds k kind x y t p =
+await-holds k kind x y t effects p =
     held-becomes t (not-false _ (p .0)) (k .0) (leb-false _ _ (p .1 .1 .0)) (p .1 .1 .1 .0) (λ h z. withOperation kind x y z) _ refl
     (six-registers (t .hardware) (k .0))
 
 -- ---- a setup
 
 -- a setup that is accepted, on any tables: every hart is at home as made, nothing waits, no region stands and nothing is allowed
-pub setup-holds : (s : declared.Setup) (t : Tables) → performed (Setup s) t .answer ≡ Done
-    → Holds (performed (Setup s) t .after) (s .harts) (s .hardware) (view (λ h. atHome) (setupHart s) (λ h. []) [] 0)
+pub setup-holds : (s : Setup) (t : Tables) → setUp s t .answer ≡ Done
+    → Holds (setUp s t .after) (s .harts) (s .hardware) (view (λ h. atHome) (setupHart s) (λ h. []) [] 0)
 setup-holds s t e =
-    let after : Tables = performed (Setup s) t .after in
+    let after : Tables = setUp s t .after in
     let rows = setup-rows s t e in
     let real : (h : ℕ) → h < s .harts → isDummy (homeHart after h) ≡ false =
     λ h l. ap isDummy (rows .at-home h l) ∙ ap (λ (v : ℕ). eqb v noVm) (setup-vm s h) in

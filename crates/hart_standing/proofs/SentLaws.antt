@@ -31,9 +31,9 @@ use Rattle.confidential_hart.specs.declared.HardwareHartId.{HardwareHartId}
 use Rattle.confidential_hart.specs.declared.Transition.{Transition}
 use Rattle.confidential_hart.specs.Hart.{registerCount, noOperation, withOperation}
 use Rattle.confidential_hart.proofs.TransitionLaws.{moves-is}
-use Rattle.hart_rows.specs.Rows.{hartWords}
+use Rattle.hart_rows.specs.HartRows.{hartWords}
 use Rattle.hart_rows.proofs.HartRowLaws.{loaded-words}
-use Rattle.monitor_requests.specs.declared.Request.the-variants.{Send, Allow, Add, Remove}
+use Rattle.monitor_requests.specs.declared.Request.the-variants.{Send, Allow, Add, Remove, Broadcast, Process, Resume}
 use Rattle.monitor_requests.specs.declared.Answer.{Answer}
 use Rattle.monitor_requests.specs.Answers.{given}
 use Rattle.monitor_requests.specs.Tables.{
@@ -53,16 +53,14 @@ use Rattle.monitor_requests.specs.Tables.{
   sound,
 }
 use Rattle.confidential_vm_mmio_region.specs.Region.{regionFrom}
-use Rattle.monitor_requests.specs.Requests.{withHardware, withHeld, withQueues, withRegions, receives, broadcast, tests, effect}
+use Rattle.monitor_requests.specs.Requests.{withHardware, withHeld, withQueues, withRegions, receives, broadcast, unsound, tests, effect, didRows, doing, ownCommands, processed, Going, resumed, heldId, heldCommands}
 use Rattle.monitor_requests.proofs.JudgedLaws.{Passed}
 use Rattle.monitor_requests.proofs.SoundLaws.{sound-sized, hardware-formed, held-names}
-use Rattle.monitor_requests.proofs.BroadcastLaws.{refusesAt, refusing-does, refusing-first, refuser, delivers, queue-after, answer-is, send-known}
+use Rattle.monitor_requests.proofs.BroadcastLaws.{refusesAt, refusing-does, refusing-first, refuser, delivers, queue-after, answer-is}
 use Rattle.monitor_requests.proofs.MoveLaws.{hardware-fits, six-registers}
-use Rattle.flow_requests.specs.declared.FlowRequest.the-variants.{Broadcast, Process, Resume}
-use Rattle.flow_requests.specs.FlowRequests.{didRows, doing, ownCommands, processed, Going, resumed, heldId, heldCommands, flowTests, flowEffect}
-use Rattle.flow_requests.proofs.DoingLaws.{by-going, did-sound, queue-fits, emptied-same, emptied-other}
-use Rattle.flow_requests.proofs.FlowLaws.{Held, broadcast-held, broadcast-formed, process-held, resume-tests, still-real, processed-sound}
-use Rattle.flow_requests.proofs.TellLaws.{afterDoing}
+use Rattle.monitor_requests.proofs.DoingLaws.{by-going, did-sound, queue-fits, emptied-same, emptied-other}
+use Rattle.monitor_requests.proofs.HeldLaws.{Held, broadcast-held, process-held, resume-tests, still-real, processed-sound}
+use Rattle.monitor_requests.proofs.TellLaws.{afterDoing}
 use Rattle.hart_standing.specs.Standing.{isOn}
 use Rattle.hart_standing.proofs.ChangedLaws.{standing, hartNow, view, viewOf, having, Holds, isTaken}
 use Rattle.hart_standing.proofs.StandLaws.{held-stands}
@@ -104,11 +102,11 @@ module _ (t : Tables) (s : sound t ≡ true) where
       (getD-set-other (t .head) regionsWord allowedWord (length rs) 0 (λ e. omega arith))
 
 -- allowing interrupts adds their bits to the mask, and changes nothing else
-pub allow-holds : (bits : ℕ) (t : Tables) → Passed (tests (Allow bits) t)
-    → Holds (effect (Allow bits) t .after) (harts t) (hardwareHarts t)
+pub allow-holds : (bits : ℕ) (t : Tables) (effects : List ℕ) → Passed (unsound t ∷ tests (Allow bits) t effects)
+    → Holds (effect (Allow bits) t effects .after) (harts t) (hardwareHarts t)
     (view (standing t) (hartNow t) (λ h. commands (queue t h)) (regionsOf t) (bitOr (allowed t) bits))
 unfolding tests effect
-allow-holds bits t p =
+allow-holds bits t effects p =
     let mask : ℕ = bitOr (allowed t) bits in
     let there : allowedWord < length (t .head) = omega (arith, sound-sized t (not-false _ (p .0)) .long .head-long) in
     head-holds t (set (t .head) allowedWord mask) (t .regions)
@@ -120,18 +118,18 @@ allow-holds bits t p =
     (getD-set-same (t .head) allowedWord mask 0 there)
 
 -- a region that is added stands last, and nothing else changes
-pub add-holds : (base size : ℕ) (t : Tables) → Passed (tests (Add base size) t)
-    → Holds (effect (Add base size) t .after) (harts t) (hardwareHarts t)
+pub add-holds : (base size : ℕ) (t : Tables) (effects : List ℕ) → Passed (unsound t ∷ tests (Add base size) t effects)
+    → Holds (effect (Add base size) t effects .after) (harts t) (hardwareHarts t)
     (view (standing t) (hartNow t) (λ h. commands (queue t h)) (regionsOf t ++ (regionFrom base size ∷ [])) (allowed t))
 unfolding tests effect
-add-holds base size t p = laid-holds t (not-false _ (p .0)) (regionsOf t ++ (regionFrom base size ∷ []))
+add-holds base size t effects p = laid-holds t (not-false _ (p .0)) (regionsOf t ++ (regionFrom base size ∷ []))
 
 -- a removal leaves the regions that do not overlap, and changes nothing else
-pub remove-holds : (base size : ℕ) (t : Tables) → Passed (tests (Remove base size) t)
-    → Holds (effect (Remove base size) t .after) (harts t) (hardwareHarts t)
+pub remove-holds : (base size : ℕ) (t : Tables) (effects : List ℕ) → Passed (unsound t ∷ tests (Remove base size) t effects)
+    → Holds (effect (Remove base size) t effects .after) (harts t) (hardwareHarts t)
     (view (standing t) (hartNow t) (λ h. commands (queue t h)) (withRemoved (regionFrom base size) (regionsOf t)) (allowed t))
 unfolding tests effect
-remove-holds base size t p = laid-holds t (not-false _ (p .0)) (withRemoved (regionFrom base size) (regionsOf t))
+remove-holds base size t effects p = laid-holds t (not-false _ (p .0)) (withRemoved (regionFrom base size) (regionsOf t))
 
 -- ---- a broadcast of the tables
 
@@ -231,11 +229,11 @@ module _ (sender : ℕ) (c : ConfidentialHartRemoteCommand) (t : Tables) (s : so
   sent-holds = rows-hold t _ _ _ _ (λ h l. refl) sent-waits
 
 -- the same of the request
-pub send-holds : (sender : ℕ) (c : ConfidentialHartRemoteCommand) (t : Tables) → Passed (tests (Send sender c) t)
-    → Holds (effect (Send sender c) t .after) (harts t) (hardwareHarts t)
-    (having (hartNow t) (waitingThen (effect (Send sender c) t .answer) t sender c) (viewOf t))
+pub send-holds : (sender : ℕ) (c : ConfidentialHartRemoteCommand) (t : Tables) (effects : List ℕ) → Passed (unsound t ∷ tests (Send sender c) t effects)
+    → Holds (effect (Send sender c) t effects .after) (harts t) (hardwareHarts t)
+    (having (hartNow t) (waitingThen (effect (Send sender c) t effects .answer) t sender c) (viewOf t))
 unfolding tests effect
-send-holds sender c t p = sent-holds sender c t (not-false _ (p .0))
+send-holds sender c t effects p = sent-holds sender c t (not-false _ (p .0))
 
 -- ---- a held hart with another record
 
@@ -307,12 +305,12 @@ module _ (t : Tables) (k : ℕ) (x : Held t k) where
 -- ---- process, resume and broadcast
 
 -- a process: the hart that stands on k does what waits for it, and then nothing waits
-pub process-holds : (k : HardwareHartId) (t : Tables) (effects : List ℕ) → Passed (flowTests (Process k) t effects)
-    → Holds (flowEffect (Process k) t effects .after) (harts t) (hardwareHarts t)
+pub process-holds : (k : HardwareHartId) (t : Tables) (effects : List ℕ) → Passed (unsound t ∷ tests (Process k) t effects)
+    → Holds (effect (Process k) t effects .after) (harts t) (hardwareHarts t)
     (having (λ h. pick (isOn (k .0) (standing t h)) (afterDoing (commands (queue t h)) (hartNow t h)) (hartNow t h))
     (λ h. pick (isOn (k .0) (standing t h)) [] (commands (queue t h)))
     (viewOf t))
-unfolding flowEffect
+unfolding effect
 process-holds k t effects p = processed-holds t (k .0) (process-held k t effects p)
 
 -- the record of a hart that is answered so: an operation that is given is taken
@@ -321,7 +319,7 @@ afterTaking a x = pick (isTaken a) (withOperation noOperation 0 0 x) x
 
 module _ (t : Tables) (k : ℕ) (x : Held t k) where
   -- a held hart that goes on: its row holds the record with the operation taken where one is answered
-  going-is : resumed k t .after ≡ withHeld k (afterTaking (resumed k t .answer) (hardwareHart t k)) t
+  going-is : resumed k t [] .after ≡ withHeld k (afterTaking (resumed k t [] .answer) (hardwareHart t k)) t
   unfolding pick
   going-is =
       by-going (t .hardware) k (λ (g : Going). withHardware (g .hardware) t ≡ withHeld k (afterTaking (g .answer) (hardwareHart t k)) t)
@@ -330,11 +328,11 @@ module _ (t : Tables) (k : ℕ) (x : Held t k) where
       (λ e d. sym (held-same t k x))
 
   -- so the hart that stands on k has that record
-  going-holds : Holds (resumed k t .after) (harts t) (hardwareHarts t)
-      (having (λ h. pick (isOn k (standing t h)) (afterTaking (resumed k t .answer) (hartNow t h)) (hartNow t h)) (λ h. commands (queue t h))
+  going-holds : Holds (resumed k t [] .after) (harts t) (hardwareHarts t)
+      (having (λ h. pick (isOn k (standing t h)) (afterTaking (resumed k t [] .answer) (hartNow t h)) (hartNow t h)) (λ h. commands (queue t h))
       (viewOf t))
   going-holds =
-      let a : Answer = resumed k t .answer in
+      let a : Answer = resumed k t [] .answer in
       let y : ConfidentialHart = hardwareHart t k in
       let taken : ConfidentialHart = withOperation noOperation 0 0 y in
       rw going-is
@@ -343,15 +341,15 @@ module _ (t : Tables) (k : ℕ) (x : Held t k) where
       (λ e. six-registers (t .hardware) k)))
 
 -- a resume: the same, and an operation that is answered is taken
-pub resume-holds : (k : HardwareHartId) (t : Tables) (effects : List ℕ) → Passed (flowTests (Resume k) t effects)
-    → Holds (flowEffect (Resume k) t effects .after) (harts t) (hardwareHarts t)
+pub resume-holds : (k : HardwareHartId) (t : Tables) (effects : List ℕ) → Passed (unsound t ∷ tests (Resume k) t effects)
+    → Holds (effect (Resume k) t effects .after) (harts t) (hardwareHarts t)
     (having
     (λ h.
-    pick (isOn (k .0) (standing t h)) (afterTaking (flowEffect (Resume k) t effects .answer) (afterDoing (commands (queue t h)) (hartNow t h)))
+    pick (isOn (k .0) (standing t h)) (afterTaking (effect (Resume k) t effects .answer) (afterDoing (commands (queue t h)) (hartNow t h)))
     (hartNow t h))
     (λ h. pick (isOn (k .0) (standing t h)) [] (commands (queue t h)))
     (viewOf t))
-unfolding flowEffect
+unfolding effect
 resume-holds k t effects p =
     let x = process-held k t effects (resume-tests k t effects p) in
     let t′ = processed (heldCommands t (k .0)) (k .0) (heldId t (k .0)) t in
@@ -361,22 +359,21 @@ resume-holds k t effects p =
     (λ h l.
     after .hart-is h l
     ∙ pick-both (isOn (k .0) (standing t h))
-    (λ e. ap (afterTaking (resumed (k .0) t′ .answer)) (before .hart-is h l ∙ sym (yes _ e refl)))
+    (λ e. ap (afterTaking (resumed (k .0) t′ [] .answer)) (before .hart-is h l ∙ sym (yes _ e refl)))
     (λ e. before .hart-is h l ∙ sym (no _ e refl)))
     (before .waits-are)
 
 -- a broadcast: the sender does the command itself where it is selected, and those that have it offered have it waiting
 pub broadcast-holds : (k : HardwareHartId) (c : ConfidentialHartRemoteCommand) (t : Tables) (effects : List ℕ)
-    → Passed (flowTests (Broadcast k c) t effects)
-    → Holds (flowEffect (Broadcast k c) t effects .after) (harts t) (hardwareHarts t)
+    → Passed (unsound t ∷ tests (Broadcast k c) t effects)
+    → Holds (effect (Broadcast k c) t effects .after) (harts t) (hardwareHarts t)
     (having (λ h. pick (isOn (k .0) (standing t h)) (afterDoing (ownCommands c h) (hartNow t h)) (hartNow t h))
-    (waitingThen (flowEffect (Broadcast k c) t effects .answer) t (heldId t (k .0)) c)
+    (waitingThen (effect (Broadcast k c) t effects .answer) t (heldId t (k .0)) c)
     (viewOf t))
-unfolding flowEffect
+unfolding effect
 broadcast-holds k c t effects p =
     let x = broadcast-held k c t effects p in
     let sender : ℕ = heldId t (k .0) in
     let t′ = doing (ownCommands c sender) (k .0) t in
     let s = did-sound t (x .tables-sound) (k .0) (x .k-below) (ownCommands c sender) in
-    rw (send-known sender c t′ s (broadcast-formed k c t effects p))
-    (rows-hold t _ _ _ _ (did-holds t (k .0) x (ownCommands c) .hart-is) (sent-waits sender c t′ s))
+    rows-hold t _ _ _ _ (did-holds t (k .0) x (ownCommands c) .hart-is) (sent-waits sender c t′ s)

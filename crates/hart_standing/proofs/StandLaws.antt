@@ -16,11 +16,11 @@ use Rattle.confidential_hart.specs.Hart.{noVm, theVm, registerCount, isDummy, i
 use Rattle.confidential_hart.proofs.HartLaws.{formed-facts}
 use Rattle.hart_rows.proofs.HartRowLaws.{load-store, load-store-other}
 use Rattle.monitor_requests.specs.Tables.{Tables, harts, hardwareHarts, homeHart, hardwareHart, queue, sound}
-use Rattle.monitor_requests.specs.Requests.{withHeld}
-use Rattle.monitor_requests.proofs.SoundLaws.{sound-sized, home-formed, hardware-formed, away-names, sound-paragraph, homeHolds, exactly-when}
+use Rattle.monitor_requests.specs.Requests.{withHeld, heldId}
+use Rattle.monitor_requests.proofs.SoundLaws.{sound-sized, home-formed, hardware-formed, away-names, sound-sentences, exactly-when}
+use Rattle.monitor_requests.specs.Soundness.{homeHolds}
 use Rattle.monitor_requests.proofs.MoveLaws.{hardware-fits, six-registers}
-use Rattle.flow_requests.specs.FlowRequests.{heldId}
-use Rattle.hart_standing.specs.Standing.{Standing, atHome, on, isOn}
+use Rattle.hart_standing.specs.Standing.{Standing, atHome, onHardware, isOn}
 use Rattle.hart_standing.proofs.ChangedLaws.{standing, hartNow, viewOf, having, Holds}
 
 -- ---- a home row, whatever it holds
@@ -28,16 +28,16 @@ use Rattle.hart_standing.proofs.ChangedLaws.{standing, hartNow, viewOf,
 -- the hart is not at home
 abbrev isAway : Standing → Bool
 isAway atHome = false
-isAway (on k) = true
+isAway (onHardware k) = true
 
 -- the number of its hardware hart, and 0 at home
 abbrev numberIn : Standing → ℕ
 numberIn atHome = 0
-numberIn (on k) = k
+numberIn (onHardware k) = k
 
 module _ (t : Tables) (h : ℕ) where
   -- a dummy in it says that the hart stands on the dummy's hardware hart
-  pub dummy-stands : isDummy (homeHart t h) ≡ true → standing t h ≡ on (homeHart t h .id)
+  pub dummy-stands : isDummy (homeHart t h) ≡ true → standing t h ≡ onHardware (homeHart t h .id)
   dummy-stands d = sym (yes _ d refl)
 
   -- its record is there then
@@ -53,11 +53,11 @@ module _ (t : Tables) (h : ℕ) where
   real-now d = sym (no _ d refl)
 
   -- of a hart that is away it holds a dummy
-  pub away-dummy : (k : ℕ) → standing t h ≡ on k → isDummy (homeHart t h) ≡ true
+  pub away-dummy : (k : ℕ) → standing t h ≡ onHardware k → isDummy (homeHart t h) ≡ true
   away-dummy k e = by-test (isDummy (homeHart t h)) (λ d. d) (λ d. absurd (false≢true (ap isAway (sym (real-stands d) ∙ e))))
 
   -- the dummy has the number of the hardware hart
-  pub away-id : (k : ℕ) → standing t h ≡ on k → homeHart t h .id ≡ k
+  pub away-id : (k : ℕ) → standing t h ≡ onHardware k → homeHart t h .id ≡ k
   away-id k e = ap numberIn (sym (dummy-stands (away-dummy k e)) ∙ e)
 
   -- of a hart at home it holds no dummy
@@ -70,10 +70,10 @@ module _ (t : Tables) (h : ℕ) where
   on-holds k = by-test (isDummy (homeHart t h)) (λ d. rw d) (λ d. rw d)
 
   -- a hart that passes the test stands on k
-  pub on-stands : (k : ℕ) → isOn k (standing t h) ≡ true → standing t h ≡ on k
+  pub on-stands : (k : ℕ) → isOn k (standing t h) ≡ true → standing t h ≡ onHardware k
   on-stands k e =
       let b : homeHolds t h k ≡ true = sym (on-holds k) ∙ e in
-      dummy-stands (and-left (isDummy (homeHart t h)) _ b) ∙ ap on (eqb-true _ _ (and-right (isDummy (homeHart t h)) _ b))
+      dummy-stands (and-left (isDummy (homeHart t h)) _ b) ∙ ap onHardware (eqb-true _ _ (and-right (isDummy (homeHart t h)) _ b))
 
 -- a well-formed dummy with six registers is the dummy of its number
 dummy-only : (x : ConfidentialHart) → wellFormed x ≡ true → isDummy x ≡ true → length (x .registers) ≡ registerCount → x ≡ dummy (x .id)
@@ -101,11 +101,11 @@ eqb-turned a b =
 
 module _ (t : Tables) (s : sound t ≡ true) where
   -- a dummy in a home row names a hardware hart that there is
-  pub stands-below : (h k : ℕ) → h < harts t → standing t h ≡ on k → k < hardwareHarts t
+  pub stands-below : (h k : ℕ) → h < harts t → standing t h ≡ onHardware k → k < hardwareHarts t
   stands-below h k l e = rw (away-id t h k e) at (away-names t s h l (away-dummy t h k e) .there)
 
   -- the home row of a hart that is away is the dummy of its hardware hart
-  pub away-row : (h k : ℕ) → h < harts t → standing t h ≡ on k → homeHart t h ≡ dummy k
+  pub away-row : (h k : ℕ) → h < harts t → standing t h ≡ onHardware k → homeHart t h ≡ dummy k
   away-row h k l e =
       dummy-only (homeHart t h) (home-formed t s h l) (away-dummy t h k e) (six-registers (t .home) h) ∙ ap dummy (away-id t h k e)
 
@@ -127,17 +127,17 @@ module _ (t : Tables) (s : sound t ≡ true) where
   now-number h l =
       by-test (isDummy (homeHart t h))
       (λ d. ap (λ (x : ConfidentialHart). x .id) (dummy-now t h d) ∙ away-names t s h l d .back)
-      (λ d. ap (λ (x : ConfidentialHart). x .id) (real-now t h d) ∙ sound-paragraph t s .home-real h l d)
+      (λ d. ap (λ (x : ConfidentialHart). x .id) (real-now t h d) ∙ sound-sentences t s .home-real h l d)
 
   -- the hardware row of a hart that is away is that hart
-  pub hardware-row : (h k : ℕ) → standing t h ≡ on k → hardwareHart t k ≡ hartNow t h
+  pub hardware-row : (h k : ℕ) → standing t h ≡ onHardware k → hardwareHart t k ≡ hartNow t h
   hardware-row h k e = sym (dummy-now t h (away-dummy t h k e) ∙ ap (hardwareHart t) (away-id t h k e))
 
   -- a hardware row that holds a dummy holds its own
   pub idle-row : (k : ℕ) → k < hardwareHarts t → isDummy (hardwareHart t k) ≡ true → hardwareHart t k ≡ dummy k
   idle-row k l d =
       dummy-only (hardwareHart t k) (hardware-formed t s k l) d (six-registers (t .hardware) k)
-      ∙ ap dummy (sound-paragraph t s .hardware-dummy k l d)
+      ∙ ap dummy (sound-sentences t s .hardware-dummy k l d)
 
   -- on a hardware hart that holds a real hart a hart stands exactly when it has that number
   pub held-stands : (k : ℕ) → k < hardwareHarts t → isDummy (hardwareHart t k) ≡ false → (h : ℕ) → h < harts t
@@ -171,7 +171,7 @@ module _ (t : Tables) (s : sound t ≡ true) where
         hart-is = λ h b.
             by-test (isOn k (standing t h))
             (λ e.
-            let there : standing t h ≡ on k = on-stands t h k e in
+            let there : standing t h ≡ onHardware k = on-stands t h k e in
             dummy-now (withHeld k x t) h (away-dummy t h k there)
             ∙ ap (hardwareHart (withHeld k x t)) (away-id t h k there)
             ∙ load-store (t .hardware) k (fits k l) x six

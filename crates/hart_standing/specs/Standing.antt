@@ -6,9 +6,9 @@ use lib.Dec.{eqb}
 -- a hart stands at home, or on hardware hart k
 pub data Standing : Type 0 where
   atHome : Standing
-  on : ℕ → Standing
+  onHardware : ℕ → Standing
 
 -- it stands on hardware hart k
 abbrev pub isOn : ℕ → Standing → Bool
 isOn k atHome = false
-isOn k (on j) = eqb j k
+isOn k (onHardware j) = eqb j k

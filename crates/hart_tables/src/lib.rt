@@ -8,7 +8,7 @@ ghost use Prim.Native.Nat.{_+_, _*_, _≤_};
 ghost use lib.ListN.{length};
 ghost use Rattle.table_rows.specs.Rows.{row, put};
 ghost use Rattle.confidential_hart.specs.Hart.{isDummy, isExecutable};
-ghost use Rattle.hart_rows.specs.Rows.{hartWords, hartAt};
+ghost use Rattle.hart_rows.specs.HartRows.{hartWords, hartAt};
 use confidential_hart::NO_VM;
 use hart_lifecycle_state::STARTED;
 use hart_lifecycle_state::SUSPENDED;
@@ -70,7 +70,8 @@ pub fn is_executable(rows: &[u64], i: usize) -> bool
 // Exchanges row `h` of one table with row `k` of another.
 pub fn exchange(home: &mut [u64], h: usize, hardware: &mut [u64], k: usize)
     requires { ⌜ (h * hartWords + hartWords ≤ length (now home)) × (k * hartWords + hartWords ≤ length (now hardware)) ⌝ }
-    ensures { λ _. ⌜ (now (home .exit) ≡ put hartWords (now (home .entry)) h (row hartWords (now (hardware .entry)) k)) × (now (hardware .exit) ≡ put hartWords (now (hardware .entry)) k (row hartWords (now (home .entry)) h)) ⌝ }
+    ensures { λ _. ⌜ (now (home .exit) ≡ put hartWords (now (home .entry)) h (row hartWords (now (hardware .entry)) k))
+        × (now (hardware .exit) ≡ put hartWords (now (hardware .entry)) k (row hartWords (now (home .entry)) h)) ⌝ }
 {
     let real = hart_rows::load(home, h);
     let dummy = hart_rows::load(hardware, k);

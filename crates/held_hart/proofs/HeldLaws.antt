@@ -19,12 +19,12 @@ use Rattle.effects.specs.Effects.{effectWords, effectOf, effectsOf, isShutdown,
 use Rattle.effects.proofs.EffectLaws.{no-effects, one-effect, shuts-down-none, shuts-down-one}
 use Rattle.confidential_hart.specs.Hart.{isDummy}
 use Rattle.confidential_hart.specs.Transition.{afterOff}
-use Rattle.hart_rows.specs.Rows.{hartWords, hartAt, toWords}
+use Rattle.hart_rows.specs.HartRows.{hartWords, hartAt, toWords}
 use Rattle.monitor_requests.specs.Tables.{Tables, harts, hardwareHarts, hardwareHart, queue, sound}
 use Rattle.monitor_requests.proofs.SoundLaws.{sound-facts, sound-sized, held-names}
 use Rattle.monitor_requests.proofs.MoveLaws.{hardware-fits}
-use Rattle.flow_requests.specs.FlowRequests.{didRows, ownCommands, heldId}
-use Rattle.flow_requests.proofs.DoingLaws.{queue-fits}
+use Rattle.monitor_requests.specs.Requests.{didRows, ownCommands, heldId}
+use Rattle.monitor_requests.proofs.DoingLaws.{queue-fits}
 
 -- the rows once row k is powered off or not, as commands say
 pub did-rows : (cs : List ConfidentialHartRemoteCommand) (rows : List ℕ) (k : ℕ) {off : Bool} {after : List ℕ} → off ≡ shutsDown cs

@@ -11,8 +11,8 @@ ghost use Rattle.table_rows.specs.Choice.{pick};
 ghost use Rattle.remote_commands.specs.Queue.{maxCommands, queueWords, count, commands, emptied};
 ghost use Rattle.effects.specs.Effects.{effectWords, effectsOf};
 ghost use Rattle.confidential_hart.specs.Transition.{afterOff};
-ghost use Rattle.hart_rows.specs.Rows.{hartWords, hartAt, toWords};
-ghost use Rattle.flow_requests.specs.FlowRequests.{didRows, ownCommands, going, goesOn};
+ghost use Rattle.hart_rows.specs.HartRows.{hartWords, hartAt, toWords};
+ghost use Rattle.monitor_requests.specs.Requests.{didRows, ownCommands, going, goesOn};
 use confidential_hart::NO_OPERATION;
 use confidential_hart_remote_command::ConfidentialHartRemoteCommand;
 use hart_lifecycle_state::POWERED_OFF;
@@ -22,7 +22,8 @@ use remote_commands::QUEUE_WORDS;
 // Powers off the hart in row `k`, if it is to be.
 fn power_off_if(off: bool, hardware: &mut [u64], k: usize)
     requires { ⌜ k * hartWords + hartWords ≤ length (now hardware) ⌝ }
-    ensures { λ _. ⌜ now (hardware .exit) ≡ pick off (put hartWords (now (hardware .entry)) k (toWords (afterOff (hartAt (now (hardware .entry)) k) .hart))) (now (hardware .entry)) ⌝ }
+    ensures { λ _. ⌜ now (hardware .exit)
+        ≡ pick off (put hartWords (now (hardware .entry)) k (toWords (afterOff (hartAt (now (hardware .entry)) k) .hart))) (now (hardware .entry)) ⌝ }
 {
     if off {
         let step = hart_rows::load(hardware, k).transition_to_shutdown();
@@ -39,7 +40,9 @@ pub fn execute_own(
     effects: &mut [u64],
 ) -> u64
     requires { ⌜ (k * hartWords + hartWords ≤ length (now hardware)) × (effectWords ≤ length (now effects)) ⌝ }
-    ensures { λ r. ⌜ (r ≡ length (ownCommands c hart)) × (now (hardware .exit) ≡ didRows (ownCommands c hart) (now (hardware .entry)) k) × (now (effects .exit) ≡ over (effectsOf hart (ownCommands c hart)) (now (effects .entry))) ⌝ }
+    ensures { λ r. ⌜ (r ≡ length (ownCommands c hart))
+        × (now (hardware .exit) ≡ didRows (ownCommands c hart) (now (hardware .entry)) k)
+        × (now (effects .exit) ≡ over (effectsOf hart (ownCommands c hart)) (now (effects .entry))) ⌝ }
 {
     let passed = !c.is_hart_selected(hart);
     if passed {
@@ -58,8 +61,14 @@ pub fn execute_queued(
     queues: &mut [u64],
     effects: &mut [u64],
 ) -> u64
-    requires { ⌜ (k * hartWords + hartWords ≤ length (now hardware)) × (hart * queueWords + queueWords ≤ length (now queues)) × (count (row queueWords (now queues) hart) ≤ maxCommands) × (maxCommands * effectWords ≤ length (now effects)) ⌝ }
-    ensures { λ r. ⌜ (r ≡ length (commands (row queueWords (now (queues .entry)) hart))) × (now (hardware .exit) ≡ didRows (commands (row queueWords (now (queues .entry)) hart)) (now (hardware .entry)) k) × (now (queues .exit) ≡ put queueWords (now (queues .entry)) hart emptied) × (now (effects .exit) ≡ over (effectsOf hart (commands (row queueWords (now (queues .entry)) hart))) (now (effects .entry))) ⌝ }
+    requires { ⌜ (k * hartWords + hartWords ≤ length (now hardware))
+        × (hart * queueWords + queueWords ≤ length (now queues))
+        × (count (row queueWords (now queues) hart) ≤ maxCommands)
+        × (maxCommands * effectWords ≤ length (now effects)) ⌝ }
+    ensures { λ r. ⌜ (r ≡ length (commands (row queueWords (now (queues .entry)) hart)))
+        × (now (hardware .exit) ≡ didRows (commands (row queueWords (now (queues .entry)) hart)) (now (hardware .entry)) k)
+        × (now (queues .exit) ≡ put queueWords (now (queues .entry)) hart emptied)
+        × (now (effects .exit) ≡ over (effectsOf hart (commands (row queueWords (now (queues .entry)) hart))) (now (effects .entry))) ⌝ }
 {
     let a = hart as usize * QUEUE_WORDS;
     let e = a + QUEUE_WORDS;

@@ -1,2 +1,2 @@
 -- The definitions that the contracts of `leaf_exports` cite.
-pub mod Answers
+pub mod LeafAnswers

@@ -7,11 +7,11 @@ ghost use Rattle.mmio_regions.specs.Regions.{anyContains};
 ghost use Rattle.mmio_regions.specs.Table.{regionWords, standing, regionsSound, Sized, added, removed, table};
 ghost use Rattle.confidential_hart_remote_command.specs.Command.{wellFormed, commandWords, fromWords as commandOf};
 ghost use Rattle.confidential_hart_remote_command.specs.Selection.{selects};
-ghost use Rattle.remote_commands.specs.Queue.{queueWords, queueWellFormed, outcome, offered};
+ghost use Rattle.remote_commands.specs.Queue.{queueWords, queueWellFormed, offer, offered};
 ghost use Rattle.confidential_hart.specs.Hart.{wellFormed as hartWellFormed, dummy, resetHart, bootHart};
-ghost use Rattle.hart_rows.specs.Rows.{hartWords, toWords, fromWords};
+ghost use Rattle.hart_rows.specs.HartRows.{hartWords, toWords, fromWords};
 ghost use Rattle.confidential_hart.specs.Transition.{afterStart, afterSuspend, afterStop, afterWake, afterOff};
-ghost use Rattle.leaf_exports.specs.Answers.{answer, ofRegion, ofOutcome, ofTransition};
+ghost use Rattle.leaf_exports.specs.LeafAnswers.{answer, ofRegion, ofAddition, ofTransition};
 use confidential_hart::ConfidentialHart;
 use confidential_hart::ConfidentialHartId;
 use confidential_hart::HardwareHartId;
@@ -49,7 +49,7 @@ pub extern "C" fn leaf_is_queue_well_formed(queue: &[u64]) -> bool
 #[no_mangle]
 pub extern "C" fn leaf_offer(queue: &mut [u64], words: &[u64]) -> u64
     requires { ⌜ (length (now queue) ≡ queueWords) × (length (now words) ≡ commandWords) ⌝ }
-    ensures { λ r. ⌜ outcome r (now (queue .exit)) ≡ offered (now (queue .entry)) (commandOf (now (words .entry))) ⌝ }
+    ensures { λ r. ⌜ offer r (now (queue .exit)) ≡ offered (now (queue .entry)) (commandOf (now (words .entry))) ⌝ }
 {
     let c = ConfidentialHartRemoteCommand::from_words(words);
     remote_commands::offer(queue, c)
@@ -79,7 +79,7 @@ pub extern "C" fn leaf_regions_are_sound(regions: &[u64], count: u64) -> bool
 #[no_mangle]
 pub extern "C" fn leaf_add(regions: &mut [u64], count: u64, base: u64, end: u64) -> u64
     requires { ⌜ Sized (now regions) count ⌝ }
-    ensures { λ r. ⌜ answer r (now (regions .exit)) ≡ ofOutcome (added (now (regions .entry)) count (regionOf base end)) ⌝ }
+    ensures { λ r. ⌜ answer r (now (regions .exit)) ≡ ofAddition (added (now (regions .entry)) count (regionOf base end)) ⌝ }
 {
     let region = ConfidentialVmMmioRegion { base, end };
     let added = mmio_regions::add(regions, count, region);

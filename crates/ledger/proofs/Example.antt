@@ -1,12 +1,10 @@
 -- The rows worked out from the logs of `specs/Example.antt` are those worked out by hand, and the runs leave these logs. Assumes nothing.
 use mathlib.Core.Path.{_≡_, refl, ap, _∙_, subst}
-use mathlib.Core.Bool.{Bool, true, false, not}
+use mathlib.Core.Bool.{true}
 use mathlib.Core.List.{List, [], _∷_}
-use borrow.Author.Tests.{not-true}
 use Rattle.table_rows.specs.Choice.{pick, every}
-use Rattle.table_rows.specs.Lists.{upTo, anyOf, allOf}
+use Rattle.table_rows.specs.Lists.{upTo, anyOf}
 use Rattle.table_rows.specs.Rows.{row, wordAt, put, rowsOf}
-use Rattle.table_rows.proofs.PickLaws.{and-left, and-right}
 use Rattle.bits.specs.Bit.{clearBit, setBit}
 use Rattle.confidential_hart_remote_command.specs.Command.{wellFormed, same}
 use Rattle.confidential_hart_remote_command.specs.Selection.{inHartList, selects}
@@ -18,20 +16,17 @@ use Rattle.hart_lifecycle_state.specs.Lifecycle.{only}
 use Rattle.confidential_hart.specs.Hart as hart
 use Rattle.confidential_hart.specs.HartStart.{startRegisters}
 use Rattle.confidential_hart.specs.Transition.{applied, transition}
-use Rattle.hart_rows.specs.Rows.{toWords, hartAt}
-use Rattle.monitor_requests.specs.declared.Setup as declared
-use Rattle.monitor_requests.specs.declared.Request.the-variants.{Setup}
+use Rattle.hart_rows.specs.HartRows.{toWords, hartAt}
+use Rattle.monitor_requests.specs.declared.Setup.{Setup}
 use Rattle.monitor_requests.specs.declared.Answer.the-variants.{Done}
 use Rattle.monitor_requests.specs.Tables.{longEnough, sound}
-use Rattle.monitor_requests.specs.Requests.{refuses, receives, deliver, tests, effect, performed}
+use Rattle.monitor_requests.specs.Requests.{refuses, receives, deliver, tests, effect, setUp, setupTests, Outcome, didRows, ownCommands, goesOn}
 use Rattle.monitor_requests.proofs.SetupLaws.{setup-sound}
-use Rattle.flow_requests.specs.declared.FlowRequest.{FlowRequest}
-use Rattle.flow_requests.specs.declared.FlowRequest.the-variants.{Plain}
-use Rattle.flow_requests.specs.FlowRequests.{FlowOutcome, didRows, ownCommands, goesOn, flowTests, flowEffect}
-use Rattle.flow_requests.proofs.FlowLaws.{isFlowSetup, flow-sound}
-use Rattle.flow_requests.proofs.SureLaws.{sure, sure-is}
-use Rattle.ledger.specs.Log.{Log, log, says, heard, notedIn, noted}
-use Rattle.ledger.specs.Rows.{
+use Rattle.monitor_requests.specs.declared.Request.{Request}
+use Rattle.monitor_requests.proofs.RequestLaws.{performed-sound}
+use Rattle.monitor_requests.proofs.SureLaws.{sure, sure-is}
+use Rattle.ledger.specs.Log.{Log, says, heard}
+use Rattle.ledger.specs.WorkedOut.{
   latest,
   since,
   place,
@@ -72,71 +67,51 @@ pub p9-waiting : waiting p9 ≡ 0 ∷ 1 ∷ 64 ∷ 0 ∷ []
 unfolding p9 pick every upTo anyOf clearBit same inHartList selects shutsDown startRegisters says heard latest since place firstCopies lifecycle queue registers operation unremoved addedUntil allowed realHart standingOn
 p9-waiting = refl
 
--- an accepted setup starts the log anew
-pub p1-anew : noted (Plain (Setup busy-setup)) Done p1 ≡ log busy-setup []
-unfolding says heard notedIn pick
-p1-anew = refl
-
 -- ---- the runs leave these logs
 
--- none of the requests is a setup
-abbrev noSetup : List FlowRequest → Bool
-noSetup rs = allOf (λ r. not (isFlowSetup r)) rs
-
 -- what stands after requests, without asking soundness at each
-abbrev runSure : Reached → List FlowRequest → Reached
+abbrev runSure : Reached → List Request → Reached
 runSure x [] = x
 runSure x (r ∷ rs) = runSure (reached r (sure r (x .standing) effectsRoom) (x .written)) rs
 
 -- on sound tables it is the same
-run-sure : (rs : List FlowRequest) (x : Reached) → noSetup rs ≡ true → sound (x .standing) ≡ true → reachedBy (asks rs) x ≡ runSure x rs
-unfolding allOf
-run-sure [] x others s = refl
-run-sure (r ∷ rs) x others s =
-    let other : isFlowSetup r ≡ false = not-true _ (and-left (not (isFlowSetup r)) (noSetup rs) others) in
-    run-sure rs _ (and-right (not (isFlowSetup r)) (noSetup rs) others) (flow-sound r (x .standing) effectsRoom s)
-    ∙ ap (λ (o : FlowOutcome). runSure (reached r o (x .written)) rs) (sure-is r (x .standing) effectsRoom other s)
+run-sure : (rs : List Request) (x : Reached) → sound (x .standing) ≡ true → reachedBy (asks rs) x ≡ runSure x rs
+run-sure [] x s = refl
+run-sure (r ∷ rs) x s =
+    run-sure rs _ (performed-sound r (x .standing) effectsRoom s)
+    ∙ ap (λ (o : Outcome). runSure (reached r o (x .written)) rs) (sure-is r (x .standing) effectsRoom s)
 
 -- a run whose log is computed leaves that log, and the words that it leaves are the rows worked out from it
-left-so : (s : declared.Setup) (rs : List FlowRequest) (l : Log) → performed (Setup s) (room s) .answer ≡ Done → noSetup rs ≡ true
+left-so : (s : Setup) (rs : List Request) (l : Log) → setUp s (room s) .answer ≡ Done
     → runSure (begun s (room s)) rs .written ≡ l
     → Kept l (reachedFrom s rs .standing)
-left-so s rs l accepts others computed =
+left-so s rs l accepts computed =
     subst (λ (written : Log). Kept written (reachedFrom s rs .standing))
-    (ap (λ (x : Reached). x .written) (run-sure rs (begun s (room s)) others (setup-sound s (room s) accepts)) ∙ computed)
+    (ap (λ (x : Reached). x .written) (run-sure rs (begun s (room s)) (setup-sound s (room s) accepts)) ∙ computed)
     (kept-after s (room s) accepts (asks rs))
 
 -- both setups are accepted
-p1-accepted : performed (Setup p1-setup) (room p1-setup) .answer ≡ Done
-unfolding performed tests effect pick longEnough
+p1-accepted : setUp p1-setup (room p1-setup) .answer ≡ Done
+unfolding setUp setupTests pick longEnough
 p1-accepted = refl
 
-busy-accepted : performed (Setup busy-setup) (room busy-setup) .answer ≡ Done
-unfolding performed tests effect pick longEnough
+busy-accepted : setUp busy-setup (room busy-setup) .answer ≡ Done
+unfolding setUp setupTests pick longEnough
 busy-accepted = refl
-
--- no other request is a setup
-p1-others : noSetup p1-requests ≡ true
-unfolding allOf
-p1-others = refl
-
-busy-others : noSetup (requestsOf busy-answered) ≡ true
-unfolding allOf busy-answered
-busy-others = refl
 
 -- the logs of the runs, by computation
 p1-computed : runSure (begun p1-setup (room p1-setup)) p1-requests .written ≡ p1
-unfolding p1-first pick every upTo anyOf row put rowsOf setBit hart.wellFormed wellFormed same inHartList selects commandAt commands queued pushed offered shutsDown only applied transition toWords hartAt longEnough refuses receives deliver tests effect performed didRows ownCommands goesOn flowTests flowEffect says heard notedIn
+unfolding p1-first pick every upTo anyOf row put rowsOf setBit hart.wellFormed wellFormed same inHartList selects commandAt commands queued pushed offered shutsDown only applied transition toWords hartAt longEnough refuses receives deliver tests effect setUp setupTests didRows ownCommands goesOn says heard
 p1-computed = refl
 
 busy-computed : runSure (begun busy-setup (room busy-setup)) (requestsOf busy-answered) .written ≡ busy
-unfolding busy-answered regions.standing regions.wordsOf regions.laid withRemoved wordAt emptied pick every upTo anyOf row put rowsOf setBit hart.wellFormed wellFormed same inHartList selects commandAt commands queued pushed offered shutsDown only applied transition toWords hartAt longEnough refuses receives deliver tests effect performed didRows ownCommands goesOn flowTests flowEffect says heard notedIn
+unfolding busy-answered regions.standing regions.wordsOf regions.laid withRemoved wordAt emptied pick every upTo anyOf row put rowsOf setBit hart.wellFormed wellFormed same inHartList selects commandAt commands queued pushed offered shutsDown only applied transition toWords hartAt longEnough refuses receives deliver tests effect setUp setupTests didRows ownCommands goesOn says heard
 busy-computed = refl
 
 -- P1: its run leaves its log, and the words that it leaves are the rows worked out from it
 pub p1-kept : Kept p1 (reachedFrom p1-setup p1-requests .standing)
-p1-kept = left-so p1-setup p1-requests p1 p1-accepted p1-others p1-computed
+p1-kept = left-so p1-setup p1-requests p1 p1-accepted p1-computed
 
 -- so does the other run
 pub busy-kept : Kept busy (reachedFrom busy-setup (requestsOf busy-answered) .standing)
-busy-kept = left-so busy-setup (requestsOf busy-answered) busy busy-accepted busy-others busy-computed
+busy-kept = left-so busy-setup (requestsOf busy-answered) busy busy-accepted busy-computed

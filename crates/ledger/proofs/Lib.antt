@@ -4,5 +4,6 @@ mod NextLaws
 mod StepLaws
 mod WordLaws
 mod AgreeLaws
+mod RecordLaws
 pub mod Theorem
 mod Example

@@ -1,5 +1,5 @@
 -- What a request says makes one view of another: of the log by its next entry, and equal views stay equal. Assumes nothing.
-use Prim.Native.Nat.{ℕ, zero, suc, _+_, _<_}
+use Prim.Native.Nat.{ℕ, zero, suc, _<_}
 use mathlib.Core.Path.{_≡_, refl, sym, ap, _∙_}
 use mathlib.Core.Bool.{Bool, true, false, _&&_, _||_}
 use mathlib.Core.List.{List, [], _∷_, _++_, append-nil}
@@ -7,22 +7,21 @@ use mathlib.Core.Option.{Option, none, some}
 use native.Mathlib.Omega.{arith}
 use Rattle.table_rows.specs.Choice.{pick, every}
 use Rattle.table_rows.specs.Lists.{anyOf}
-use Rattle.table_rows.proofs.PickLaws.{by-pick}
+use Rattle.table_rows.proofs.PickLaws.{by-pick, by-test}
 use Rattle.confidential_vm_mmio_region.specs.declared.ConfidentialVmMmioRegion.{ConfidentialVmMmioRegion}
 use Rattle.confidential_hart_remote_command.specs.declared.ConfidentialHartRemoteCommand.{ConfidentialHartRemoteCommand}
 use Rattle.effects.specs.Effects.{shutsDown}
 use Rattle.confidential_hart.specs.declared.ConfidentialHart.{ConfidentialHart}
 use Rattle.confidential_hart.specs.Hart.{noOperation, withOperation}
 use Rattle.confidential_hart.specs.Transition.{moved}
-use Rattle.monitor_requests.specs.declared.Setup as declared
+use Rattle.monitor_requests.specs.declared.Setup.{Setup}
 use Rattle.monitor_requests.specs.declared.Answer.{Answer}
-use Rattle.monitor_requests.specs.declared.Answer.the-variants.{Refused, Done, Mask, State, Flag, Count, Run, PoweredOff, Operation}
 use Rattle.monitor_requests.specs.Tables.{Tables}
-use Rattle.flow_requests.proofs.TellLaws.{afterDoing}
+use Rattle.monitor_requests.proofs.TellLaws.{afterDoing}
 use Rattle.hart_standing.specs.Standing.{Standing}
 use Rattle.hart_standing.proofs.ChangedLaws.{View, view, standingAt, having, Holds, isTaken}
 use Rattle.ledger.specs.Log.{Entry, log, accepted, Move, stays, Who, Wait, waitFor, Says, unchanged, saying, ofHart, nothing, moving, changing, waiting, emptying, sending, taken, heard}
-use Rattle.ledger.specs.Rows.{isWho, withCopy, receives, selected, unremoved, joined}
+use Rattle.ledger.specs.WorkedOut.{isWho, withCopy, receives, selected, unremoved, joined}
 use Rattle.ledger.proofs.ReadLaws.{
   nextStanding,
   place-next,
@@ -82,7 +81,7 @@ nextView a u v =
     (joined (u .allows) (v .allowed))
 
 -- the log with one more entry
-pub log-next : (n : ℕ) (s : declared.Setup) (e : Entry) (es : List Entry)
+pub log-next : (n : ℕ) (s : Setup) (e : Entry) (es : List Entry)
     → Same n (nextView (e .answer) (heard e) (viewOfLog (log s es))) (viewOfLog (log s (e ∷ es)))
 log-next n s e es =
     record {
@@ -145,18 +144,18 @@ pub same-regions : (rs : List ConfidentialVmMmioRegion) → rs ≡ unremoved [] 
 same-regions rs = sym (append-nil (unremoved [] rs) ∙ unremoved-none rs)
 
 -- of no hart: moves, regions and the mask alone change
-pub saying-next : (n : ℕ) (a : Answer) (setup : Option declared.Setup) (move : Move) (adds removes : List ConfidentialVmMmioRegion) (bits : Option ℕ) (v : View)
+pub saying-next : (n : ℕ) (a : Answer) (move : Move) (adds removes : List ConfidentialVmMmioRegion) (bits : Option ℕ) (v : View)
     (regions : List ConfidentialVmMmioRegion) (mask : ℕ) → regions ≡ unremoved removes (v .regions) ++ adds → mask ≡ joined bits (v .allowed)
-    → Same n (view (λ h. nextStanding move h (v .stands h)) (v .hart) (v .waits) regions mask) (nextView a (saying setup move adds removes bits) v)
+    → Same n (view (λ h. nextStanding move h (v .stands h)) (v .hart) (v .waits) regions mask) (nextView a (saying move adds removes bits) v)
 unfolding pick
-saying-next n a setup move adds removes bits v regions mask p q =
+saying-next n a move adds removes bits v regions mask p q =
     record { stands-same = λ h l. refl; hart-same = λ h l. refl; waits-same = λ h l. refl; regions-same = p; allowed-same = q }
 
 -- a move alone
 pub moving-next : (n : ℕ) (a : Answer) (move : Move) (v : View)
     → Same n (standingAt (λ h. nextStanding move h (v .stands h)) v) (nextView a (moving move) v)
 moving-next n a move v =
-    saying-next n a none move [] [] none v (v .regions) (v .allowed) (same-regions (v .regions)) refl
+    saying-next n a move [] [] none v (v .regions) (v .allowed) (same-regions (v .regions)) refl
 
 -- nothing at all
 pub nothing-next : (n : ℕ) (a : Answer) (v : View) → Same n v (nextView a nothing v)
@@ -263,12 +262,4 @@ resuming-next n a who v =
     took : (b : Answer) (h : ℕ)
         → pick (isTaken b) (withOperation noOperation 0 0 (afterDoing (v .waits h) (v .hart h))) (afterDoing (v .waits h) (v .hart h))
         ≡ changed (emptying who (taken b)) (v .waits h) h (v .hart h)
-    took (Refused e) h = refl
-    took Done h = refl
-    took (Mask mask) h = refl
-    took (State state) h = refl
-    took (Flag flag) h = refl
-    took (Count count) h = refl
-    took Run h = refl
-    took PoweredOff h = refl
-    took (Operation kind x y) h = refl
+    took b h = by-test (isTaken b) (λ e. rw e) (λ e. rw e)

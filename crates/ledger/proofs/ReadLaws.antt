@@ -1,5 +1,5 @@
 -- What one more entry makes of each row that is worked out. Assumes nothing.
-use Prim.Native.Nat.{ℕ, _+_}
+use Prim.Native.Nat.{ℕ}
 use mathlib.Core.Path.{_≡_, refl, sym, ap, _∙_}
 use mathlib.Core.Bool.{Bool, true, false, _&&_, _||_, or-false, or-true, or-assoc}
 use mathlib.Core.List.{List, [], _∷_, _++_, append-nil}
@@ -13,12 +13,12 @@ use Rattle.mmio_regions.specs.Regions.{withRemoved}
 use Rattle.confidential_hart_remote_command.specs.declared.ConfidentialHartRemoteCommand.{ConfidentialHartRemoteCommand}
 use Rattle.confidential_hart.specs.declared.ConfidentialHart.{ConfidentialHart}
 use Rattle.confidential_hart.specs.Hart.{hartOf}
-use Rattle.monitor_requests.specs.declared.Setup as declared
+use Rattle.monitor_requests.specs.declared.Setup.{Setup}
 use Rattle.monitor_requests.specs.declared.Answer.{Answer}
-use Rattle.hart_standing.specs.Standing.{Standing, atHome, on}
+use Rattle.hart_standing.specs.Standing.{Standing, atHome, onHardware}
 use Rattle.hart_standing.proofs.ChangedLaws.{View, view}
 use Rattle.ledger.specs.Log.{Entry, Log, log, Move, stays, steals, returns, Who, waitFor, Says, isSome, heard}
-use Rattle.ledger.specs.Rows.{
+use Rattle.ledger.specs.WorkedOut.{
   orElse,
   getOr,
   latest,
@@ -56,15 +56,15 @@ use Rattle.ledger.specs.Rows.{
 -- where a hart stands after a move
 abbrev pub nextStanding : Move → ℕ → Standing → Standing
 nextStanding stays h at = at
-nextStanding (steals g k) h at = pick (eqb g h) (on k) at
+nextStanding (steals g k) h at = pick (eqb g h) (onHardware k) at
 nextStanding (returns k) h atHome = atHome
-nextStanding (returns k) h (on j) = pick (returnsBy j (returns k)) atHome (on j)
+nextStanding (returns k) h (onHardware j) = pick (returnsBy j (returns k)) atHome (onHardware j)
 
 -- a return after others: the hart is home, or it goes home
-returned-after : (h j k : ℕ) (b : Bool) → pick (returnsBy j (returns k) || b) atHome (on j) ≡ nextStanding (returns k) h (pick b atHome (on j))
+returned-after : (h j k : ℕ) (b : Bool) → pick (returnsBy j (returns k) || b) atHome (onHardware j) ≡ nextStanding (returns k) h (pick b atHome (onHardware j))
 unfolding pick
-returned-after h j k true = ap (λ (x : Bool). pick x atHome (on j)) (or-true (returnsBy j (returns k)))
-returned-after h j k false = ap (λ (x : Bool). pick x atHome (on j)) (or-false (returnsBy j (returns k)))
+returned-after h j k true = ap (λ (x : Bool). pick x atHome (onHardware j)) (or-true (returnsBy j (returns k)))
+returned-after h j k false = ap (λ (x : Bool). pick x atHome (onHardware j)) (or-false (returnsBy j (returns k)))
 
 module _ (h : ℕ) (e : Entry) (later : List Entry) where
   -- one more entry, by what was stolen last
@@ -72,15 +72,15 @@ module _ (h : ℕ) (e : Entry) (later : List Entry) where
       → unlessReturned (orElse (stealsHart h u) o) (pick (isSome (stealsHart h u)) [] (e ∷ later)) ≡ nextStanding u h (unlessReturned o later)
   unfolding anyOf pick
   one-more stays q none = refl
-  one-more stays q (some k) = ap (λ (u : Move). pick (returnsBy k u || anyOf (λ x. returnsBy k (heard x .move)) later) atHome (on k)) q
+  one-more stays q (some k) = ap (λ (u : Move). pick (returnsBy k u || anyOf (λ x. returnsBy k (heard x .move)) later) atHome (onHardware k)) q
   one-more (steals g k) q o = by-test (eqb g h) (λ b. rw b refl) (λ b. rw b (again o))
     where
       again : (o : Option ℕ) → unlessReturned o (e ∷ later) ≡ unlessReturned o later
       again none = refl
-      again (some j) = ap (λ (u : Move). pick (returnsBy j u || anyOf (λ x. returnsBy j (heard x .move)) later) atHome (on j)) q
+      again (some j) = ap (λ (u : Move). pick (returnsBy j u || anyOf (λ x. returnsBy j (heard x .move)) later) atHome (onHardware j)) q
   one-more (returns k) q none = refl
   one-more (returns k) q (some j) =
-      ap (λ (u : Move). pick (returnsBy j u || anyOf (λ x. returnsBy j (heard x .move)) later) atHome (on j)) q
+      ap (λ (u : Move). pick (returnsBy j u || anyOf (λ x. returnsBy j (heard x .move)) later) atHome (onHardware j)) q
       ∙ returned-after h j k (anyOf (λ x. returnsBy j (heard x .move)) later)
 
 -- where hart h stands
@@ -101,7 +101,7 @@ changed u waits h x =
     (u .registers (x .registers))
 
 -- hart h's record: changed where the entry is about it
-pub hart-next : (s : declared.Setup) (e : Entry) (es : List Entry) (h : ℕ)
+pub hart-next : (s : Setup) (e : Entry) (es : List Entry) (h : ℕ)
     → realHart (log s (e ∷ es)) h ≡ pick (about e es h) (changed (heard e) (queue s es h) h (realHart (log s es) h)) (realHart (log s es) h)
 unfolding realHart lifecycle registers operation queue pick
 hart-next s e es h = by-test (about e es h) (λ b. rw b refl) (λ b. rw b refl)
@@ -131,7 +131,7 @@ abbrev pub viewOfLog : Log → View
 viewOfLog l = view (place (l .entries)) (realHart l) (queue (l .setup) (l .entries)) (regions (l .entries)) (allowed (l .entries))
 
 -- hart h's queue
-pub queue-next : (s : declared.Setup) (e : Entry) (es : List Entry) (h : ℕ)
+pub queue-next : (s : Setup) (e : Entry) (es : List Entry) (h : ℕ)
     → queue s (e ∷ es) h
     ≡ pick (heard e .empties && about e es h) []
     (nextWaits (heard e .sends) (λ c. reaches (e .answer) (heard e .who) c (viewOfLog (log s es)) h) (queue s es h))

@@ -2,82 +2,91 @@
 use Prim.Native.Nat.{ℕ, zero, suc, _<_, _≤_}
 use mathlib.Core.Path.{_≡_, refl, sym, ap, ap₂, _∙_, subst}
 use mathlib.Core.Logic.{_≢_}
-use mathlib.Core.Bool.{Bool, true, false, _&&_, not, false≢true, _||_}
+use mathlib.Core.Bool.{Bool, true, false, _&&_, _||_, not, false≢true}
 use mathlib.Core.List.{List, [], _∷_}
 use native.Mathlib.Nat.{le-refl}
 use native.Mathlib.Omega.{arith}
 use lib.ListN.{length}
 use lib.Dec.{eqb, leb}
 use borrow.Author.Tests.{eqb-false, eq-eqb, not-true, le-leb, lt-leb}
+use Rattle.error.specs.declared.Error.{Error}
 use Rattle.error.specs.declared.Error.the-variants.{TablesNotSound, ReachedMaxNumberOfRemoteCommands}
-use Rattle.table_rows.specs.Choice as choice
+use Rattle.table_rows.specs.Choice.{pick, exists}
+use Rattle.table_rows.specs.Lists.{allOf}
 use Rattle.table_rows.proofs.PickLaws.{yes, no, by-test, and-both}
 use Rattle.confidential_hart_remote_command.specs.declared.ConfidentialHartRemoteCommand.{ConfidentialHartRemoteCommand}
 use Rattle.remote_commands.proofs.OfferLaws.{commands-length}
 use Rattle.confidential_hart.specs.declared.HardwareHartId.{HardwareHartId}
 use Rattle.confidential_hart.specs.declared.ConfidentialHart.{ConfidentialHart}
 use Rattle.confidential_hart.specs.Hart.{theVm, isDummy, dummy}
-use Rattle.hart_rows.specs.Rows.{toWords, hartAt}
-use Rattle.monitor_requests.specs.declared.Setup as declared
+use Rattle.hart_rows.specs.HartRows.{toWords, hartAt}
+use Rattle.monitor_requests.specs.declared.Setup.{Setup}
 use Rattle.monitor_requests.specs.declared.Request.{Request}
-use Rattle.monitor_requests.specs.declared.Request.the-variants.{Setup, Send}
+use Rattle.monitor_requests.specs.declared.Request.the-variants.{Send, Broadcast, Process, Resume}
 use Rattle.monitor_requests.specs.declared.Answer.{Answer}
 use Rattle.monitor_requests.specs.declared.Answer.the-variants.{Refused, Done, Mask, Count}
 use Rattle.monitor_requests.specs.Tables.{Tables, harts, hardwareHarts, homeHart, hardwareHart, queue}
 use Rattle.monitor_requests.specs.Requests as requests
-use Rattle.monitor_requests.specs.Requests.{Outcome, effect, performed}
+use Rattle.monitor_requests.specs.Requests.{Outcome, refusedOn, fresh, setupTests, setUp, unsound, performed, answering, heldId, tests, processed, Going, goesOn, heldCommands, ownCommands, effect}
 use Rattle.monitor_requests.specs.Writes.{past}
-use Rattle.monitor_requests.proofs.JudgedLaws.{by-performed, Passed, by-errors}
-use Rattle.monitor_requests.proofs.WriteLaws.{setup-past-kept}
+use Rattle.monitor_requests.proofs.JudgedLaws.{Passed, by-errors, by-performed}
+use Rattle.monitor_requests.proofs.WriteLaws.{setup-past-kept, lengths-kept, writes-only, past-kept as past-of, effects-length, effects-kept, effects-fit}
 use Rattle.monitor_requests.proofs.AnswerLaws.{isMask}
-use Rattle.monitor_requests.proofs.RequestLaws.{twelve-never-for-setup}
+use Rattle.monitor_requests.proofs.RequestLaws.{by-set-up, twelve-never-for-setup, setup-refusal-alone, setup-done-fresh, setup-lengths, twelve-exactly, one-outcome, room-kept, by-doing}
 use Rattle.monitor_requests.proofs.SoundLaws.{held-names}
 use Rattle.monitor_requests.proofs.BroadcastLaws.{Masked, send-mask, RefusedAt, send-eight, interruptsOn}
-use Rattle.flow_requests.specs.declared.FlowRequest.{FlowRequest}
-use Rattle.flow_requests.specs.declared.FlowRequest.the-variants.{Plain, Broadcast, Process, Resume}
-use Rattle.flow_requests.specs.FlowRequests.{FlowOutcome, flowPerformed, heldId, flowRefusedOn, flowTests, processed, Going, goesOn, heldCommands, flowEffect}
-use Rattle.flow_requests.proofs.FlowLaws.{by-flow, isFlowSetup, Held, broadcast-held, by-flow-setup, plainly, plain-is, flow-twelve-exactly, flow-refusal-alone, flow-one-outcome, process-held, resume-tests}
-use Rattle.flow_requests.proofs.FlowWriteLaws.{flow-lengths, flow-writes-only, flow-past-kept, flow-effects-length, flow-effects-kept, flow-effects-fit}
-use Rattle.flow_requests.proofs.TellLaws.{process-count, broadcast-mask, afterDoing, broadcast-eight}
-use Rattle.hart_standing.specs.Standing.{Standing, atHome, on, isOn}
+use Rattle.monitor_requests.proofs.HeldLaws.{Held, broadcast-held, process-held, resume-tests}
+use Rattle.monitor_requests.proofs.TellLaws.{process-count, broadcast-mask, afterDoing, broadcast-eight}
+use Rattle.hart_standing.specs.Standing.{Standing, atHome, onHardware, isOn}
 use Rattle.hart_standing.proofs.ChangedLaws.{standing, hartNow}
 use Rattle.hart_standing.proofs.StandLaws.{stands-below, away-row, home-row, now-real, now-number, hardware-row, idle-row, held-stands, idle-stands, on-hart, on-holds, on-stands, real-stands}
-use Rattle.flow_requests.proofs.DoingLaws.{by-going, did-hart}
-use Rattle.table_rows.proofs.SomeLaws.{some-of, none-of}
+use Rattle.monitor_requests.proofs.DoingLaws.{by-going, did-hart}
+use Rattle.table_rows.proofs.ExistsLaws.{exists-of, none-of}
 use Rattle.remote_commands.specs.Queue.{maxCommands, count}
-use Rattle.ledger.specs.Log.{Log, noted, Who, hart, heldBy, entry, accepted, refusedWith8, waitFor, isSome, says, isHeard}
-use Rattle.ledger.specs.Rows as rows
-use Rattle.ledger.specs.Rows.{place, isWho, realHart, rowFor, standingOn}
-use Rattle.ledger.specs.Statement.{Left, setUp, asked, Ask, Reached, reachedBy, begun, queueWordsOf, regionWordsOf, RowsAre, Row, home, hardware, Stands, StandsOnly, rowAt, isReceiver, CountOf, lengths, pastEnd, Next, Kept, someFull, MaskOf, On, goingOn, ResumeOf}
+use Rattle.ledger.specs.Log.{Entry, entry, Log, accepted, refusedWith8, Who, hartNumbered, heldBy, waitFor, Says, says, isSome, isHeard, heard, noted}
+use Rattle.ledger.specs.WorkedOut as rows
+use Rattle.ledger.specs.WorkedOut.{place, isWho, doneBy, realHart, rowFor, standingOn}
+use Rattle.ledger.specs.Statement.{Left, begins, asked, Ask, again, ask, Reached, reachedAgain, reachedBy, begun, NextSetup, queueWordsOf, regionWordsOf, RowsAre, Row, home, hardware, Stands, StandsOnly, rowAt, isReceiver, CountOf, lengths, pastEnd, Next, Kept, someFull, MaskOf, On, goingOn, ResumeOf, RecordsOf, RecordsAre}
 use Rattle.ledger.proofs.WordLaws.{queue-words, home-words, hardware-words, region-words}
 use Rattle.ledger.proofs.NextLaws.{every-same}
-use Rattle.ledger.proofs.StepLaws.{receives-now, said-holds}
-use Rattle.ledger.proofs.AgreeLaws.{Agree, left-agrees, tests-silent}
+use Rattle.ledger.proofs.StepLaws.{receives-now, said-holds, effect-heard}
+use Rattle.ledger.proofs.AgreeLaws.{Agree, left-agrees, silent, silent-unheard, by-silent, heard-says}
+use Rattle.ledger.proofs.RecordLaws.{no-records, own-records, plain-does, unheard-does}
 
 -- a broadcast that gives a mask is of a held hart
 mask-held : (k : HardwareHartId) (c : ConfidentialHartRemoteCommand) (t : Tables) (effects : List ℕ) (mask : ℕ)
-    → flowPerformed (Broadcast k c) t effects .answer ≡ Mask mask → Held t (k .0)
+    → performed (Broadcast k c) t effects .answer ≡ Mask mask → Held t (k .0)
 mask-held k c t effects mask =
-    by-flow (Broadcast k c) t effects (λ (o : FlowOutcome). o .answer ≡ Mask mask → Held t (k .0)) (λ _ q. absurd (false≢true (ap isMask q)))
+    by-performed (Broadcast k c) t effects (λ (o : Outcome). o .answer ≡ Mask mask → Held t (k .0)) (λ _ q. absurd (false≢true (ap isMask q)))
     (λ p _. broadcast-held k c t effects p)
 
--- a broadcast that gives 8 is heard
-sent-8-heard : (k : HardwareHartId) (c : ConfidentialHartRemoteCommand) → isHeard (entry (Broadcast k c) (Refused ReachedMaxNumberOfRemoteCommands)) ≡ true
-unfolding says
-sent-8-heard k c = refl
+-- 8 is not silent
+eight-heard : (e : Error) → silent (Refused e) ≡ true → _≢_ {A = Answer} (Refused e) (Refused ReachedMaxNumberOfRemoteCommands)
+eight-heard e q is = false≢true (sym (ap silent is) ∙ q)
 
--- it is of a held hart too
+-- a broadcast that gives 8 is of a held hart too
 eight-held : (k : HardwareHartId) (c : ConfidentialHartRemoteCommand) (t : Tables) (effects : List ℕ)
-    → flowPerformed (Broadcast k c) t effects .answer ≡ Refused ReachedMaxNumberOfRemoteCommands → Held t (k .0)
-unfolding flowPerformed
+    → performed (Broadcast k c) t effects .answer ≡ Refused ReachedMaxNumberOfRemoteCommands → Held t (k .0)
 eight-held k c t effects =
-    by-errors (flowRefusedOn t effects) (flowEffect (Broadcast k c) t effects)
-    (λ (o : FlowOutcome). o .answer ≡ Refused ReachedMaxNumberOfRemoteCommands → Held t (k .0))
-    (λ e. not (isHeard (entry (Broadcast k c) (Refused e))))
-    (λ e silent q. absurd (false≢true (sym (not-true _ silent) ∙ ap (λ (a : Answer). isHeard (entry (Broadcast k c) a)) q ∙ sent-8-heard k c)))
-    (flowTests (Broadcast k c) t effects)
-    (tests-silent (Broadcast k c) t effects)
+    by-silent (Broadcast k c) t effects (λ (o : Outcome). o .answer ≡ Refused ReachedMaxNumberOfRemoteCommands → Held t (k .0))
+    (λ e unheard q. absurd (eight-heard e unheard q))
     (λ p _. broadcast-held k c t effects p)
+
+-- 8 is given to a request that sends a command
+eight-sends : (r : Request) (t : Tables) (effects : List ℕ) → performed r t effects .answer ≡ Refused ReachedMaxNumberOfRemoteCommands
+    → isSome (says r (performed r t effects .answer) .sends) ≡ true
+eight-sends r t effects =
+    by-silent r t effects (λ (o : Outcome). o .answer ≡ Refused ReachedMaxNumberOfRemoteCommands → isSome (says r (o .answer) .sends) ≡ true)
+    (λ e unheard q. absurd (eight-heard e unheard q))
+    (λ p q. rw q (rw q at (effect-heard r t effects p)))
+
+-- a refusal that is not heard changes nothing
+refusal-alone : (r : Request) (t : Tables) (effects : List ℕ) (e : Error) → performed r t effects .answer ≡ Refused e → isHeard (entry r (Refused e)) ≡ false
+    → performed r t effects ≡ refusedOn t effects e
+refusal-alone r t effects e =
+    by-performed r t effects (λ (o : Outcome). o .answer ≡ Refused e → isHeard (entry r (Refused e)) ≡ false → o ≡ refusedOn t effects e)
+    (λ _ q _. ap (λ (a : Answer). answering a t effects) q)
+    (λ p q unheard. absurd (false≢true (sym unheard ∙ ap (λ (a : Answer). isHeard (entry r a)) (sym q) ∙ effect-heard r t effects p)))
 
 -- what a hart goes on with, by its record
 going-answer : (held : List ℕ) (k : ℕ)
@@ -93,10 +102,9 @@ going-answer held k =
     (λ e d. no _ e (yes _ d refl))
 
 -- a setup writes no word past the tables that it leaves
-setup-past : (s : declared.Setup) (t : Tables) → pastEnd (performed (Setup s) t .after) (performed (Setup s) t .after) ≡ pastEnd (performed (Setup s) t .after) t
-unfolding effect performed
+setup-past : (s : Setup) (t : Tables) → pastEnd (setUp s t .after) (setUp s t .after) ≡ pastEnd (setUp s t .after) t
 setup-past s t =
-    by-performed (Setup s) t (λ (o : Outcome). o ≡ performed (Setup s) t → pastEnd (o .after) (o .after) ≡ pastEnd (o .after) t) (λ _ _. refl)
+    by-set-up s t (λ (o : Outcome). o ≡ setUp s t → pastEnd (o .after) (o .after) ≡ pastEnd (o .after) t) (λ _ _ _. refl)
     (λ p e. subst (λ (o : Outcome). past (s .harts) (s .hardware) (o .after) ≡ past (s .harts) (s .hardware) t) (sym e) (setup-past-kept s t))
     refl
 
@@ -110,7 +118,7 @@ module _ (l : Log) (t : Tables) (x : Agree l t) where
   -- the home row by where the hart stands
   home-record : (h : ℕ) → h < harts t → (at : Standing) → standing t h ≡ at → homeHart t h ≡ rowFor at (hartNow t h)
   home-record h b atHome e = home-row t (x .tables-sound) h e
-  home-record h b (on k) e = away-row t (x .tables-sound) h k b e
+  home-record h b (onHardware k) e = away-row t (x .tables-sound) h k b e
 
   -- it is the one worked out
   home-is : (h : ℕ) → h < l .setup .harts → homeHart t h ≡ rows.homeRow l h
@@ -127,14 +135,18 @@ module _ (l : Log) (t : Tables) (x : Agree l t) where
       (ap (isOn k) (sym (x .holds .stands-at i (omega arith))) ∙ idle-stands t (x .tables-sound) k b e i (within i (omega arith)))
       (sym (idle-is k b e i (omega arith))))
 
-  -- the one that stands on a busy one is found once it is among the first i
+  -- on a busy one stands the hart that it holds, and no other
+  held-alone : (k : ℕ) → k < hardwareHarts t → isDummy (hardwareHart t k) ≡ false → (h : ℕ) → h < l .setup .harts
+      → isOn k (place (l .entries) h) ≡ eqb h (heldId t k)
+  held-alone k b e h inside = ap (isOn k) (sym (x .holds .stands-at h inside)) ∙ held-stands t (x .tables-sound) k b e h (within h inside)
+
+  -- it is found once it is among the first i
   busy-is : (k : ℕ) → k < hardwareHarts t → isDummy (hardwareHart t k) ≡ false → (i : ℕ) → i ≤ l .setup .harts → heldId t k < i
       → standingOn l i k ≡ hardwareHart t k
   unfolding standingOn
   busy-is k b e zero i-few found = absurd (omega arith)
   busy-is k b e (suc i) i-few found =
-      let here : isOn k (place (l .entries) i) ≡ eqb i (heldId t k) =
-      ap (isOn k) (sym (x .holds .stands-at i (omega arith))) ∙ held-stands t (x .tables-sound) k b e i (within i (omega arith)) in
+      let here : isOn k (place (l .entries) i) ≡ eqb i (heldId t k) = held-alone k b e i (omega arith) in
       by-test (eqb i (heldId t k))
       (λ q.
       sym
@@ -176,7 +188,7 @@ module _ (l : Log) (t : Tables) (x : Agree l t) where
         real = ap (λ (y : ConfidentialHart). y .vm) same ∙ now-real t (x .tables-sound) h b;
         number = ap (λ (y : ConfidentialHart). y .id) same ∙ now-number t (x .tables-sound) h b;
       }
-  stands-there h b (on k) e =
+  stands-there h b (onHardware k) e =
       let same = hardware-row t (x .tables-sound) h k e in
       record {
         there = stands-below t (x .tables-sound) h k b e;
@@ -208,12 +220,8 @@ module _ (l : Log) (t : Tables) (x : Agree l t) where
   -- ---- what is asked next
 
   -- 12 is never the answer
-  never-12 : (r : FlowRequest) (effects : List ℕ) → flowPerformed r t effects .answer ≢ Refused TablesNotSound
-  never-12 r effects =
-      by-flow-setup (λ q. flowPerformed q t effects .answer ≢ Refused TablesNotSound)
-      (λ s e. twelve-never-for-setup s t (sym (ap (λ (o : FlowOutcome). o .answer) (plain-is (Setup s) t effects)) ∙ e))
-      (λ q other e. false≢true (sym (flow-twelve-exactly q t effects other .0 e) ∙ x .tables-sound))
-      r
+  never-12 : (r : Request) (effects : List ℕ) → performed r t effects .answer ≢ Refused TablesNotSound
+  never-12 r effects e = false≢true (sym (twelve-exactly r t effects .0 e) ∙ x .tables-sound)
 
   -- the hart that hardware hart k holds stands on it, by the log
   held-on : (k : ℕ) → Held t k → On k l (heldId t k)
@@ -227,7 +235,7 @@ module _ (l : Log) (t : Tables) (x : Agree l t) where
       }
 
   -- a process counts the commands of that hart
-  counted : (effects : List ℕ) (k : HardwareHartId) (count : ℕ) → flowPerformed (Process k) t effects .answer ≡ Count count → CountOf (k .0) l count
+  counted : (effects : List ℕ) (k : HardwareHartId) (count : ℕ) → performed (Process k) t effects .answer ≡ Count count → CountOf (k .0) l count
   counted effects k count q =
       let y = process-count k t effects count q in
       let h : ℕ = heldId t (k .0) in
@@ -241,8 +249,8 @@ module _ (l : Log) (t : Tables) (x : Agree l t) where
       }
 
   -- a resume that passes its tests answers what that hart goes on with
-  resumed-effect : (effects : List ℕ) (k : HardwareHartId) → Passed (flowTests (Resume k) t effects) → ResumeOf (k .0) l (flowEffect (Resume k) t effects .answer)
-  unfolding flowEffect realHart
+  resumed-effect : (effects : List ℕ) (k : HardwareHartId) → Passed (unsound t ∷ tests (Resume k) t effects) → ResumeOf (k .0) l (effect (Resume k) t effects .answer)
+  unfolding effect realHart
   resumed-effect effects k p =
       let y = process-held k t effects (resume-tests k t effects p) in
       let h : ℕ = heldId t (k .0) in
@@ -260,17 +268,62 @@ module _ (l : Log) (t : Tables) (x : Agree l t) where
       }
 
   -- the same of the request
-  resumed : (effects : List ℕ) (k : HardwareHartId) → accepted (flowPerformed (Resume k) t effects .answer) ≡ true
-      → ResumeOf (k .0) l (flowPerformed (Resume k) t effects .answer)
-  unfolding flowPerformed
+  resumed : (effects : List ℕ) (k : HardwareHartId) → accepted (performed (Resume k) t effects .answer) ≡ true
+      → ResumeOf (k .0) l (performed (Resume k) t effects .answer)
   resumed effects k =
-      by-errors (flowRefusedOn t effects) (flowEffect (Resume k) t effects)
-      (λ (o : FlowOutcome). accepted (o .answer) ≡ true → ResumeOf (k .0) l (o .answer))
-      (λ e. not (isHeard (entry (Resume k) (Refused e))))
-      (λ e silent is. absurd (false≢true (sym (not-true _ silent) ∙ ap (λ (b : Bool). b || refusedWith8 (Refused e) && isSome (says (Resume k) (Refused e) .sends)) is)))
-      (flowTests (Resume k) t effects)
-      (tests-silent (Resume k) t effects)
+      by-silent (Resume k) t effects (λ (o : Outcome). accepted (o .answer) ≡ true → ResumeOf (k .0) l (o .answer))
+      (λ e unheard is. absurd (false≢true (sym (ap (λ (b : Bool). not (b || refusedWith8 (Refused e))) is) ∙ unheard)))
       (λ p _. resumed-effect effects k p)
+
+  -- ---- the effect records
+
+  -- what this hart did by the tables it did by the log
+  held-records : (e : Entry) (effects : List ℕ) (o : Outcome) (k : ℕ) → Held t k → (u : Says) → heard e ≡ u → u .who ≡ heldBy k
+      → RecordsOf (heldId t k) (doneBy u (heldCommands t k) (heldId t k)) effects o
+      → RecordsAre l e effects o
+  held-records e effects o k y u is who did =
+      let h : ℕ = heldId t k in
+      let inside : h < l .setup .harts = held-on k y .there in
+      own-records l e effects o h inside
+      (λ g b. ap (λ (v : Says). isWho (v .who) (place (l .entries) g) g) is ∙ ap (λ (w : Who). isWho w (place (l .entries) g) g) who ∙ held-alone k (y .k-below) (y .real) g b)
+      (subst (λ (cs : List ConfidentialHartRemoteCommand). RecordsOf h cs effects o)
+      (ap (λ (cs : List ConfidentialHartRemoteCommand). doneBy u cs h) (x .holds .waits-are h inside)
+      ∙ ap (λ (v : Says). doneBy v (rows.queue (l .setup) (l .entries) h) h) (sym is))
+      did)
+
+  -- a request that is refused leaves none, and one that passes its tests those of its hart
+  either-records : (r : Request) (effects : List ℕ) (k : ℕ) → ((a : Answer) → says r a .who ≡ heldBy k)
+      → (Passed (unsound t ∷ tests r t effects) → Held t k)
+      → RecordsOf (heldId t k) (doneBy (says r (effect r t effects .answer)) (heldCommands t k) (heldId t k)) effects (effect r t effects)
+      → RecordsAre l (entry r (performed r t effects .answer)) effects (performed r t effects)
+  either-records r effects k who held did =
+      by-silent r t effects (λ (o : Outcome). RecordsAre l (entry r (o .answer)) effects o)
+      (λ e unheard.
+      let q = entry r (Refused e) in
+      no-records l q effects (refusedOn t effects e) (unheard-does q (silent-unheard r (Refused e) unheard) l) refl refl)
+      (λ p.
+      let a = effect r t effects .answer in
+      held-records (entry r a) effects (effect r t effects) k (held p) (says r a) (heard-says r a (effect-heard r t effects p)) (who a) did)
+
+  -- every request leaves the records that the log says
+  records-are : (effects : List ℕ) (r : Request) → RecordsAre l (entry r (performed r t effects .answer)) effects (performed r t effects)
+  unfolding effect says ownCommands pick
+  records-are effects =
+      by-doing (λ r. RecordsAre l (entry r (performed r t effects .answer)) effects (performed r t effects))
+      (λ r e.
+      let kept = room-kept r t effects e in
+      let a = performed r t effects .answer in
+      no-records l (entry r a) effects (performed r t effects) (λ h. plain-does r a e _ h) (ap (λ (o : Outcome). o .did) kept)
+      (ap (λ (o : Outcome). o .effects) kept))
+      (λ k c.
+      either-records (Broadcast k c) effects (k .0) (λ _. refl) (λ p. broadcast-held k c t effects p) (record { did-is = refl; room-is = refl }))
+      (λ k.
+      either-records (Process k) effects (k .0) (λ _. refl) (λ p. process-held k t effects p) (record { did-is = refl; room-is = refl }))
+      (λ k.
+      either-records (Resume k) effects (k .0) (λ _. refl) (λ p. process-held k t effects (resume-tests k t effects p))
+      (record { did-is = refl; room-is = refl }))
+
+  -- ---- what a broadcast answers
 
   -- of a sender and who it is by the log
   module _ (sender : ℕ) (who : Who) (c : ConfidentialHartRemoteCommand) (is : (g : ℕ) → g < harts t → eqb g sender ≡ isWho who (standing t g) g) where
@@ -299,7 +352,7 @@ module _ (l : Log) (t : Tables) (x : Agree l t) where
               (λ r. rw r refl));
           bits = λ k.
               y .bits k
-              ∙ ap (choice.some (interruptsOn (t .home) sender c k)) (x .holds .harts-are)
+              ∙ ap (exists (interruptsOn (t .home) sender c k)) (x .holds .harts-are)
               ∙ ap (λ (b : Bool). not b)
               (every-same _ _ (l .setup .harts)
               (λ h b. rw (receiver-is h b, sym (on-holds t h k), x .holds .stands-at h b) refl));
@@ -309,28 +362,25 @@ module _ (l : Log) (t : Tables) (x : Agree l t) where
     some-full : (after : List ℕ) (h : ℕ) → RefusedAt sender c t after h → someFull c who l ≡ true
     some-full after h y =
         let inside : h < l .setup .harts = rw (← (x .holds .harts-are)) (y .there) in
-        some-of fullReceiver h (l .setup .harts) inside (and-both (sym (receiver-is h inside) ∙ y .receiving) (sym (full-is h inside) ∙ le-leb _ _ (y .full)))
+        exists-of fullReceiver h (l .setup .harts) inside (and-both (sym (receiver-is h inside) ∙ y .receiving) (sym (full-is h inside) ∙ le-leb _ _ (y .full)))
 
-  -- every request but a setup leaves n and m
-  same-counts : (r : FlowRequest) (effects : List ℕ) → isFlowSetup r ≡ false
-      → (harts (flowPerformed r t effects .after) ≡ harts t) × (hardwareHarts (flowPerformed r t effects .after) ≡ hardwareHarts t)
-  same-counts r effects other =
-      by-flow r t effects (λ (o : FlowOutcome). (harts (o .after) ≡ harts t) × (hardwareHarts (o .after) ≡ hardwareHarts t)) (λ _. (refl, refl))
-      (λ p. let y = said-holds r t effects (x .tables-sound) other p in (y .harts-are, y .hardware-are))
+  -- every request leaves n and m
+  same-counts : (r : Request) (effects : List ℕ)
+      → (harts (performed r t effects .after) ≡ harts t) × (hardwareHarts (performed r t effects .after) ≡ hardwareHarts t)
+  same-counts r effects =
+      by-performed r t effects (λ (o : Outcome). (harts (o .after) ≡ harts t) × (hardwareHarts (o .after) ≡ hardwareHarts t)) (λ _. (refl, refl))
+      (λ p. let y = said-holds r t effects (x .tables-sound) p in (y .harts-are, y .hardware-are))
 
   -- words past the tables are as they were
-  past-kept : (r : FlowRequest) (effects : List ℕ)
-      → pastEnd (flowPerformed r t effects .after) (flowPerformed r t effects .after) ≡ pastEnd (flowPerformed r t effects .after) t
+  past-kept : (r : Request) (effects : List ℕ)
+      → pastEnd (performed r t effects .after) (performed r t effects .after) ≡ pastEnd (performed r t effects .after) t
   past-kept r effects =
-      by-flow-setup (λ q. pastEnd (flowPerformed q t effects .after) (flowPerformed q t effects .after) ≡ pastEnd (flowPerformed q t effects .after) t)
-      (λ s. rw (plain-is (Setup s) t effects) (setup-past s t))
-      (λ q other. let y = same-counts q effects other in rw (y .0, y .1) (flow-past-kept t effects q other))
-      r
+      let y = same-counts r effects in rw (y .0, y .1) (past-of t effects r)
 
   -- each table is as long as it was
-  as-long : (r : FlowRequest) (effects : List ℕ) → lengths (flowPerformed r t effects .after) ≡ lengths t
+  as-long : (r : Request) (effects : List ℕ) → lengths (performed r t effects .after) ≡ lengths t
   as-long r effects =
-      let y = flow-lengths t effects r in
+      let y = lengths-kept t effects r in
       λ i. y .head-same i ∷ y .home-same i ∷ y .hardware-same i ∷ y .queues-same i ∷ y .regions-same i ∷ []
 
   -- the sender of a broadcast is the hart that hardware hart k holds
@@ -338,18 +388,20 @@ module _ (l : Log) (t : Tables) (x : Agree l t) where
   held-by k y g b = sym (held-stands t (x .tables-sound) k (y .k-below) (y .real) g b)
 
   -- what meets the entry's promise is as it must be
-  next : (request : FlowRequest) (effects : List ℕ) (o : FlowOutcome) → o ≡ flowPerformed request t effects → Next l t request effects o
+  next : (request : Request) (effects : List ℕ) (o : Outcome) → o ≡ performed request t effects → Next l t request effects o
   next request effects o p =
       record {
-        one-outcome = λ other q. flow-one-outcome request t effects other o q p;
+        one-outcome = λ other q. one-outcome request t effects other o q p;
         never-12 = rw p (never-12 request effects);
-        refusal-alone = λ e q not-8. p ∙ flow-refusal-alone request t effects e (given-so q) not-8;
-        writes-only = rw p (λ place inside unnamed. flow-writes-only t effects request place inside unnamed);
+        refusal-alone = λ e q unheard. p ∙ refusal-alone request t effects e (given-so q) unheard;
+        only-broadcasts-8 = rw p (eight-sends request t effects);
+        writes-only = rw p (λ place inside unnamed. writes-only t effects request place inside unnamed);
         past-kept = rw p (past-kept request effects);
         as-long = rw p (as-long request effects);
-        effects-kept = rw p (flow-effects-kept t effects request);
-        effects-fit = rw p (flow-effects-fit t effects request);
-        effects-as-long = rw p (flow-effects-length t effects request);
+        records-are = rw p (records-are effects request);
+        effects-kept = rw p (effects-kept t effects request);
+        effects-fit = rw p (effects-fit t effects request);
+        effects-as-long = rw p (effects-length t effects request);
         counted = λ k count is q. counted effects k count (asked-so is q);
         broadcast-masked = λ k c mask is q.
             mask-of (heldId t (k .0)) (heldBy (k .0)) c (held-by (k .0) (mask-held k c t effects mask (asked-so is q))) mask
@@ -357,25 +409,38 @@ module _ (l : Log) (t : Tables) (x : Agree l t) where
         broadcast-8 = λ k c is q.
             some-full (heldId t (k .0)) (heldBy (k .0)) c (held-by (k .0) (eight-held k c t effects (asked-so is q))) _ _
             (broadcast-eight k c t effects (asked-so is q) .0);
-        send-masked = λ sender c mask is q. mask-of sender (hart sender) c (λ g b. refl) mask (send-mask sender c t mask (sent-so sender c is q));
-        send-8 = λ sender c is q. some-full sender (hart sender) c (λ g b. refl) _ _ (send-eight sender c t (sent-so sender c is q));
+        send-masked = λ sender c mask is q. mask-of sender (hartNumbered sender) c (λ g b. refl) mask (send-mask sender c t effects mask (sent-so sender c is q));
+        send-8 = λ sender c is q. some-full sender (hartNumbered sender) c (λ g b. refl) _ _ (send-eight sender c t effects (sent-so sender c is q));
         resumed = λ k is a. resumed-so k is a;
       }
     where
-      given-so : {a : Answer} → o .answer ≡ a → flowPerformed request t effects .answer ≡ a
-      given-so q = sym (ap (λ (z : FlowOutcome). z .answer) p) ∙ q
+      given-so : {a : Answer} → o .answer ≡ a → performed request t effects .answer ≡ a
+      given-so q = sym (ap (λ (z : Outcome). z .answer) p) ∙ q
 
-      asked-so : {r : FlowRequest} {a : Answer} → request ≡ r → o .answer ≡ a → flowPerformed r t effects .answer ≡ a
-      asked-so is q = sym (ap (λ (r : FlowRequest). flowPerformed r t effects .answer) is) ∙ given-so q
+      asked-so : {r : Request} {a : Answer} → request ≡ r → o .answer ≡ a → performed r t effects .answer ≡ a
+      asked-so is q = sym (ap (λ (r : Request). performed r t effects .answer) is) ∙ given-so q
 
-      sent-so : (sender : ℕ) (c : ConfidentialHartRemoteCommand) {a : Answer} → request ≡ Plain (Send sender c) → o .answer ≡ a
-          → performed (Send sender c) t .answer ≡ a
-      sent-so sender c is q = sym (ap (λ (z : FlowOutcome). z .answer) (plain-is (Send sender c) t effects)) ∙ asked-so is q
+      sent-so : (sender : ℕ) (c : ConfidentialHartRemoteCommand) {a : Answer} → request ≡ Send sender c → o .answer ≡ a
+          → performed (Send sender c) t effects .answer ≡ a
+      sent-so sender c is q = asked-so is q
 
       resumed-so : (k : HardwareHartId) → request ≡ Resume k → accepted (o .answer) ≡ true → ResumeOf (k .0) l (o .answer)
       resumed-so k is a =
-          let same : o .answer ≡ flowPerformed (Resume k) t effects .answer = sym (asked-so is refl) in
+          let same : o .answer ≡ performed (Resume k) t effects .answer = sym (asked-so is refl) in
           rw same (resumed effects k (sym (ap accepted same) ∙ a))
+
+-- a setup on any tables
+next-setup : (t : Tables) (s : Setup) (o : Outcome) → o ≡ setUp s t → NextSetup t s o
+next-setup t s o p =
+    let y = setup-lengths s t in
+    record {
+      one-outcome = λ other q. q ∙ sym p;
+      never-12 = rw p (twelve-never-for-setup s t);
+      refusal-alone = rw p (setup-refusal-alone s t);
+      done-fresh = rw p (setup-done-fresh s t);
+      past-kept = rw p (setup-past s t);
+      as-long = rw p (λ i. y .head-same i ∷ y .home-same i ∷ y .hardware-same i ∷ y .queues-same i ∷ y .regions-same i ∷ []);
+    }
 
 -- ---- the theorem
 
@@ -383,20 +448,32 @@ module _ (l : Log) (t : Tables) (x : Agree l t) where
 pub kept : (l : Log) (t : Tables) → Left l t → Kept l t
 kept l t run =
     let x = left-agrees run in
-    record { rows-are = rows-are l t x; one-place = one-place l t x; next = next l t x }
+    record { rows-are = rows-are l t x; one-place = one-place l t x; next = next l t x; next-setup = next-setup t }
+
+-- a setup goes on with a run, or starts one anew
+left-again : (s : Setup) (l : Log) (t : Tables) → Left l t → Left (reachedAgain s (setUp s t) l .written) (setUp s t .after)
+unfolding setUp setupTests allOf pick
+left-again s l t left =
+    by-errors (refusedOn t []) (answering Done (fresh s t) []) (λ (o : Outcome). o ≡ setUp s t → Left (reachedAgain s o l .written) (o .after))
+    (λ e. not (accepted (Refused e)))
+    (λ e refused _. let q : accepted (Refused e) ≡ false = not-true _ refused in rw q left)
+    (setupTests s t)
+    refl
+    (λ _ is. begins s t (answering Done (fresh s t) []) is refl)
+    refl
 
 -- requests one after the other go on with a run
 pub run-left : (more : List Ask) (x : Reached) → Left (x .written) (x .standing) → Left (reachedBy more x .written) (reachedBy more x .standing)
 run-left [] x left = left
-run-left (a ∷ more) x left =
-    run-left more _
-    (asked (x .written) (x .standing) left (a .request) (a .effects) (flowPerformed (a .request) (x .standing) (a .effects)) refl)
+run-left (again s ∷ more) x left = run-left more _ (left-again s (x .written) (x .standing) left)
+run-left (ask request effects ∷ more) x left =
+    run-left more _ (asked (x .written) (x .standing) left request effects (performed request (x .standing) effects) refl)
 
 -- the same for a list of requests: from an accepted setup on lent tables, after any of them, with any effects room each
-pub kept-after : (s : declared.Setup) (lent : Tables) → performed (Setup s) lent .answer ≡ Done → (more : List Ask)
+pub kept-after : (s : Setup) (lent : Tables) → setUp s lent .answer ≡ Done → (more : List Ask)
     → Kept (reachedBy more (begun s lent) .written) (reachedBy more (begun s lent) .standing)
-kept-after s lent done more = kept _ _ (run-left more (begun s lent) (setUp s lent (performed (Setup s) lent) refl done))
+kept-after s lent done more = kept _ _ (run-left more (begun s lent) (begins s lent (setUp s lent) refl done))
 
 -- a step by an entry that does no command: its promise is `performed` of the request
-pub asked-plain : (l : Log) (t : Tables) → Left l t → (request : Request) (o : Outcome) → o ≡ performed request t → Left (noted (Plain request) (o .answer) l) (o .after)
-asked-plain l t run request o p = asked l t run (Plain request) [] (plainly [] o) (ap (plainly []) p ∙ sym (plain-is request t []))
+pub asked-plain : (l : Log) (t : Tables) → Left l t → (request : Request) (o : Outcome) → o ≡ performed request t [] → Left (noted request (o .answer) l) (o .after)
+asked-plain l t run request o p = asked l t run request [] o p

@@ -23,7 +23,7 @@ use Rattle.confidential_hart_remote_command.specs.Command.{wellFormed, commandW
 use Rattle.confidential_hart_remote_command.proofs.CommandLaws.{words-back}
 use Rattle.remote_commands.specs.Queue.{maxCommands, queueWords, count, places, commandAt, commands, queueWellFormed}
 use Rattle.remote_commands.proofs.OfferLaws.{commands-length, well-formed-count}
-use Rattle.hart_rows.specs.Rows.{hartWords, toWords}
+use Rattle.hart_rows.specs.HartRows.{hartWords, toWords}
 use Rattle.hart_rows.proofs.HartRowLaws.{loaded-words}
 use Rattle.monitor_requests.specs.Tables.{Tables, harts, hardwareHarts, regionCount, homeHart, hardwareHart, queue, regionsOf, sound}
 use Rattle.monitor_requests.specs.Writes.{wordsAt, regionTable}

@@ -14,95 +14,76 @@ use Rattle.mmio_regions.specs.Regions.{maxRegions}
 use Rattle.mmio_regions.specs.Table.{regionWords}
 use Rattle.hart_lifecycle_state.specs.Lifecycle.{started, stopped, poweredOff}
 use Rattle.confidential_hart.specs.declared.ConfidentialHart.{ConfidentialHart}
-use Rattle.confidential_hart.specs.declared.ConfidentialHartId.{ConfidentialHartId}
-use Rattle.confidential_hart.specs.declared.HardwareHartId.{HardwareHartId}
 use Rattle.confidential_hart.specs.Hart.{theVm, hartOf, idleHart, resetHart, dummy}
-use Rattle.hart_rows.specs.Rows.{hartWords}
-use Rattle.monitor_requests.specs.declared.Setup as declared
-use Rattle.monitor_requests.specs.declared.Request.the-variants.{Steal, Return, Start, Stop, Await, Send, Allow, Add, Remove}
+use Rattle.hart_rows.specs.HartRows.{hartWords}
+use Rattle.monitor_requests.specs.declared.Setup.{Setup}
+use Rattle.monitor_requests.specs.FromNumbers.{hartId, hardwareHartId, setupOf, commandOf}
+use Rattle.monitor_requests.specs.declared.Request.the-variants.{Steal, Return, Start, Stop, Await, Send, Allow, Add, Remove, Broadcast, Process, Resume}
 use Rattle.monitor_requests.specs.declared.Answer.the-variants.{Refused, Done, Mask, Count, Run, PoweredOff}
 use Rattle.monitor_requests.specs.Tables.{Tables, tables, headWords}
-use Rattle.flow_requests.specs.declared.FlowRequest.{FlowRequest}
-use Rattle.flow_requests.specs.declared.FlowRequest.the-variants.{Plain, Broadcast, Process, Resume}
+use Rattle.monitor_requests.specs.declared.Request.{Request}
 use Rattle.ledger.specs.Log.{Entry, entry, Log, log}
-use Rattle.ledger.specs.Rows as rows
-use Rattle.ledger.specs.Statement.{Ask, Reached, reachedBy, begun}
+use Rattle.ledger.specs.WorkedOut as rows
+use Rattle.ledger.specs.Statement.{Ask, ask, Reached, reachedBy, begun}
 
 -- ---- requests, written as in a trace
 
--- what setup takes
-abbrev pub setup : ℕ → ℕ → ℕ → ℕ → ℕ → ℕ → ℕ → declared.Setup
-setup n m boot a1 mepc vsatp vsstatus =
-    record { harts = n; hardware = m; boot = boot; a1 = a1; mepc = mepc; vsatp = vsatp; vsstatus = vsstatus }
-
--- a confidential hart's number
-abbrev pub hartId : ℕ → ConfidentialHartId
-hartId h = record { 0 = h }
-
--- a hardware hart's number
-abbrev pub hardwareHartId : ℕ → HardwareHartId
-hardwareHartId k = record { 0 = k }
-
 -- hart h moves to hardware hart k
-abbrev pub steal : ℕ → ℕ → FlowRequest
-steal h k = Plain (Steal (hartId h) (hardwareHartId k))
+abbrev pub steal : ℕ → ℕ → Request
+steal h k = Steal (hartId h) (hardwareHartId k)
 
 -- the hart on hardware hart k goes home
-abbrev pub return : ℕ → FlowRequest
-return k = Plain (Return (hardwareHartId k))
+abbrev pub return : ℕ → Request
+return k = Return (hardwareHartId k)
 
 -- hart h starts
-abbrev pub start : ℕ → ℕ → ℕ → FlowRequest
-start h address opaque = Plain (Start (hartId h) address opaque)
+abbrev pub start : ℕ → ℕ → ℕ → Request
+start h address opaque = Start (hartId h) address opaque
 
 -- the hart on hardware hart k stops
-abbrev pub stop : ℕ → FlowRequest
-stop k = Plain (Stop (hardwareHartId k))
+abbrev pub stop : ℕ → Request
+stop k = Stop (hardwareHartId k)
 
 -- it waits for an operation
-abbrev pub await : ℕ → ℕ → ℕ → ℕ → FlowRequest
-await k kind x y = Plain (Await (hardwareHartId k) kind x y)
+abbrev pub await : ℕ → ℕ → ℕ → ℕ → Request
+await k kind x y = Await (hardwareHartId k) kind x y
 
 -- it does what waits for it
-abbrev pub process : ℕ → FlowRequest
+abbrev pub process : ℕ → Request
 process k = Process (hardwareHartId k)
 
 -- it does what waits for it, and goes on
-abbrev pub resume : ℕ → FlowRequest
+abbrev pub resume : ℕ → Request
 resume k = Resume (hardwareHartId k)
 
 -- bits join the allowed mask
-abbrev pub allow : ℕ → FlowRequest
-allow bits = Plain (Allow bits)
+abbrev pub allow : ℕ → Request
+allow bits = Allow bits
 
 -- a region is added
-abbrev pub add : ℕ → ℕ → FlowRequest
-add base size = Plain (Add base size)
+abbrev pub add : ℕ → ℕ → Request
+add base size = Add base size
 
 -- the regions that overlap one are removed
-abbrev pub remove : ℕ → ℕ → FlowRequest
-remove base size = Plain (Remove base size)
-
--- a command, in the order of its numbers
-abbrev pub command : ℕ → ℕ → ℕ → ℕ → ℕ → ℕ → ConfidentialHartRemoteCommand
-command kind mask base from size tag = record { kind = kind; mask = mask; base = base; start = from; size = size; tag = tag }
+abbrev pub remove : ℕ → ℕ → Request
+remove base size = Remove base size
 
 -- the hart on hardware hart k sends a command
-abbrev pub broadcast : ℕ → ConfidentialHartRemoteCommand → FlowRequest
+abbrev pub broadcast : ℕ → ConfidentialHartRemoteCommand → Request
 broadcast k c = Broadcast (hardwareHartId k) c
 
 -- a sender's number sends a command
-abbrev pub send : ℕ → ConfidentialHartRemoteCommand → FlowRequest
-send sender c = Plain (Send sender c)
+abbrev pub send : ℕ → ConfidentialHartRemoteCommand → Request
+send sender c = Send sender c
 
 -- page i is fenced on the harts of a mask
 abbrev pub fence : ℕ → ℕ → ConfidentialHartRemoteCommand
-fence mask i = command remoteSfenceVma mask 0 (i * 4096) 4096 0
+fence mask i = commandOf remoteSfenceVma mask 0 (i * 4096) 4096 0
 
 -- ---- a run on lent tables
 
 -- tables with just the room that a setup asks for, all 0
-abbrev pub room : declared.Setup → Tables
+abbrev pub room : Setup → Tables
 room s =
     tables (replicate headWords 0) (replicate (s .harts * hartWords) 0) (replicate (s .hardware * hartWords) 0)
     (replicate (s .harts * queueWords) 0)
@@ -113,12 +94,12 @@ abbrev pub effectsRoom : List ℕ
 effectsRoom = replicate (maxCommands * effectWords) 0
 
 -- each request with that room
-abbrev pub asks : List FlowRequest → List Ask
+abbrev pub asks : List Request → List Ask
 asks [] = []
-asks (r ∷ rs) = record { request = r; effects = effectsRoom } ∷ asks rs
+asks (r ∷ rs) = ask r effectsRoom ∷ asks rs
 
 -- what stands after a setup and requests
-abbrev pub reachedFrom : declared.Setup → List FlowRequest → Reached
+abbrev pub reachedFrom : Setup → List Request → Reached
 reachedFrom s rs = reachedBy (asks rs) (begun s (room s))
 
 -- ---- all rows of a VM
@@ -144,15 +125,15 @@ workedOut l =
 -- ---- P1
 
 -- the setup of P1: hart 0 boots with a1 4096 and mepc 8192
-abbrev pub p1-setup : declared.Setup
-p1-setup = setup 2 2 0 4096 8192 0 0
+abbrev pub p1-setup : Setup
+p1-setup = setupOf 2 2 0 4096 8192 0 0
 
 -- an interrupt of harts 0 and 1
 abbrev pub ipiToBoth : ConfidentialHartRemoteCommand
-ipiToBoth = command ipi 3 0 0 0 0
+ipiToBoth = commandOf ipi 3 0 0 0 0
 
 -- the requests after it
-abbrev pub p1-requests : List FlowRequest
+abbrev pub p1-requests : List Request
 p1-requests =
     steal 0 0
     ∷ steal 0 1
@@ -218,15 +199,15 @@ p1-table =
 -- ---- a run in which much happens
 
 -- three harts on two hardware harts
-abbrev pub busy-setup : declared.Setup
-busy-setup = setup 3 2 0 4096 8192 0 0
+abbrev pub busy-setup : Setup
+busy-setup = setupOf 3 2 0 4096 8192 0 0
 
 -- a fence on all three, and a shutdown
 abbrev pub fenceAll : ConfidentialHartRemoteCommand
-fenceAll = command remoteFenceI 7 0 0 0 0
+fenceAll = commandOf remoteFenceI 7 0 0 0 0
 
 abbrev pub shutdown : ConfidentialHartRemoteCommand
-shutdown = command shutdownRequest 0 0 0 0 0
+shutdown = commandOf shutdownRequest 0 0 0 0 0
 
 -- what is asked and answered, the oldest first
 unfoldable pub busy-answered : List Entry
@@ -256,7 +237,7 @@ busy-answered =
     ∷ []
 
 -- the requests of entries, in their order
-abbrev pub requestsOf : List Entry → List FlowRequest
+abbrev pub requestsOf : List Entry → List Request
 requestsOf [] = []
 requestsOf (e ∷ es) = e .request ∷ requestsOf es
 
@@ -290,8 +271,8 @@ fencesForHart2 (suc n) = entry (send 9 (fence 4 n)) (Mask 0) ∷ fencesForHart2 
 -- Started harts 1, 2 and 3 are selected, and only hart 2 has 64 commands
 unfoldable pub p9 : Log
 p9 =
-    log (setup 4 1 0 0 0 0 0)
-    (entry (send 0 (command ipi 14 0 0 0 0)) (Refused ReachedMaxNumberOfRemoteCommands)
+    log (setupOf 4 1 0 0 0 0 0)
+    (entry (send 0 (commandOf ipi 14 0 0 0 0)) (Refused ReachedMaxNumberOfRemoteCommands)
     ∷ (fencesForHart2 64 ++ (entry (start 3 0 0) Done ∷ entry (start 2 0 0) Done ∷ entry (start 1 0 0) Done ∷ [])))
 
 -- how many commands wait for each hart, by a log

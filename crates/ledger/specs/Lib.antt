@@ -1,5 +1,5 @@
 -- The log, the rows worked out from it, and what is stated of them.
 pub mod Log
-pub mod Rows
+pub mod WorkedOut
 pub mod Statement
 pub mod Example

@@ -12,49 +12,30 @@ use Rattle.hart_lifecycle_state.specs.Lifecycle.{started, stopped, suspended, p
 use Rattle.confidential_hart.specs.Hart.{noOperation}
 use Rattle.confidential_hart.specs.HartStart.{startRegisters, wakeRegisters}
 use Rattle.confidential_vm_mmio_region.specs.Region.{regionFrom}
-use Rattle.monitor_requests.specs.declared.Setup as declared
-use Rattle.monitor_requests.specs.declared.Request.the-variants.{
-  Setup,
-  Steal,
-  Return,
-  Start,
-  Suspend,
-  Stop,
-  Wake,
-  Off,
-  Await,
-  Status,
-  Home,
-  Send,
-  Allow,
-  Add,
-  Remove,
-  Defined,
-}
+use Rattle.monitor_requests.specs.declared.Setup.{Setup}
+use Rattle.monitor_requests.specs.declared.Request.the-variants.{Steal, Return, Start, Suspend, Stop, Wake, Off, Await, Status, Home, Send, Allow, Add, Remove, Defined, Broadcast, Process, Resume}
 use Rattle.monitor_requests.specs.declared.Answer.{Answer}
-use Rattle.monitor_requests.specs.declared.Answer.the-variants.{Refused, Done, Mask, State, Flag, Count, Run, PoweredOff, Operation}
-use Rattle.monitor_requests.specs.Answers.{given}
-use Rattle.flow_requests.specs.declared.FlowRequest.{FlowRequest}
-use Rattle.flow_requests.specs.declared.FlowRequest.the-variants.{Plain, Broadcast, Process, Resume}
+use Rattle.monitor_requests.specs.Answers.{given, isOp}
+use Rattle.monitor_requests.specs.declared.Request.{Request}
 
 -- ---- the log
 
 -- a request with its answer
 pub record Entry : Type 0 where
-  pub request : FlowRequest
+  pub request : Request
   pub answer : Answer
 
 -- the two together
-abbrev pub entry : FlowRequest → Answer → Entry
+abbrev pub entry : Request → Answer → Entry
 entry request answer = record { request = request; answer = answer }
 
 -- the accepted setup, and what was asked and answered since, the newest first
 pub record Log : Type 0 where
-  pub setup : declared.Setup
+  pub setup : Setup
   pub entries : List Entry
 
 -- the two together
-abbrev pub log : declared.Setup → List Entry → Log
+abbrev pub log : Setup → List Entry → Log
 log setup entries = record { setup = setup; entries = entries }
 
 -- an answer that is no refusal
@@ -76,7 +57,7 @@ pub data Move : Type 0 where
 -- whom a request is about: nobody, hart h, or the hart that hardware hart k holds
 pub data Who : Type 0 where
   nobody : Who
-  hart : ℕ → Who
+  hartNumbered : ℕ → Who
   heldBy : ℕ → Who
 
 -- what a hart waits for: the kind of an operation and its two numbers
@@ -95,8 +76,6 @@ noWait = waitFor noOperation 0 0
 
 -- what a request says of the rows
 pub record Says : Type 0 where
-  -- a new setup
-  pub setup : Option declared.Setup
   pub move : Move
   -- whom the next six are about; of a broadcast it is the sender
   pub who : Who
@@ -121,11 +100,10 @@ pub record Says : Type 0 where
 abbrev pub unchanged : List ℕ → List ℕ
 unchanged registers = registers
 
--- a setup, a move, regions and bits; nothing of any hart's record or queue
-abbrev pub saying : Option declared.Setup → Move → List ConfidentialVmMmioRegion → List ConfidentialVmMmioRegion → Option ℕ → Says
-saying setup move adds removes allows =
+-- a move, regions and bits; nothing of any hart's record or queue
+abbrev pub saying : Move → List ConfidentialVmMmioRegion → List ConfidentialVmMmioRegion → Option ℕ → Says
+saying move adds removes allows =
     record {
-      setup = setup;
       move = move;
       who = nobody;
       lifecycle = none;
@@ -143,7 +121,6 @@ saying setup move adds removes allows =
 abbrev pub ofHart : Who → Option ℕ → (List ℕ → List ℕ) → Option Wait → Bool → Option ConfidentialHartRemoteCommand → Option ConfidentialHartRemoteCommand → Says
 ofHart who lifecycle registers wait empties does sends =
     record {
-      setup = none;
       move = stays;
       who = who;
       lifecycle = lifecycle;
@@ -159,11 +136,11 @@ ofHart who lifecycle registers wait empties does sends =
 
 -- nothing at all
 abbrev pub nothing : Says
-nothing = saying none stays [] [] none
+nothing = saying stays [] [] none
 
 -- a hart moves
 abbrev pub moving : Move → Says
-moving move = saying none move [] [] none
+moving move = saying move [] [] none
 
 -- a hart has a new lifecycle, and other registers
 abbrev pub changing : Who → ℕ → (List ℕ → List ℕ) → Says
@@ -185,34 +162,25 @@ sending who does c = ofHart who none unchanged none false does (some c)
 
 -- a resume that answers an operation took it
 abbrev pub taken : Answer → Option Wait
-taken (Refused e) = none
-taken Done = none
-taken (Mask mask) = none
-taken (State state) = none
-taken (Flag flag) = none
-taken (Count count) = none
-taken Run = none
-taken PoweredOff = none
-taken (Operation kind x y) = some noWait
+taken answer = pick (isOp (given answer .word)) (some noWait) none
 
 -- what each request says, once it is accepted with its answer
-unfoldable pub says : FlowRequest → Answer → Says
-says (Plain (Setup s)) a = saying (some s) stays [] [] none
-says (Plain (Steal h k)) a = moving (steals (h .0) (k .0))
-says (Plain (Return k)) a = moving (returns (k .0))
-says (Plain (Start h address opaque)) a = changing (hart (h .0)) started (startRegisters (h .0) address opaque)
-says (Plain (Suspend k)) a = changing (heldBy (k .0)) suspended unchanged
-says (Plain (Stop k)) a = changing (heldBy (k .0)) stopped unchanged
-says (Plain (Wake k address opaque)) a = changing (heldBy (k .0)) started (wakeRegisters address opaque)
-says (Plain (Off k)) a = changing (heldBy (k .0)) poweredOff unchanged
-says (Plain (Await k kind x y)) a = waiting (heldBy (k .0)) (waitFor kind x y)
-says (Plain (Status h)) a = nothing
-says (Plain Home) a = nothing
-says (Plain (Send sender c)) a = sending (hart sender) none c
-says (Plain (Allow bits)) a = saying none stays [] [] (some bits)
-says (Plain (Add base size)) a = saying none stays (regionFrom base size ∷ []) [] none
-says (Plain (Remove base size)) a = saying none stays [] (regionFrom base size ∷ []) none
-says (Plain (Defined base size)) a = nothing
+unfoldable pub says : Request → Answer → Says
+says (Steal h k) a = moving (steals (h .0) (k .0))
+says (Return k) a = moving (returns (k .0))
+says (Start h address opaque) a = changing (hartNumbered (h .0)) started (startRegisters (h .0) address opaque)
+says (Suspend k) a = changing (heldBy (k .0)) suspended unchanged
+says (Stop k) a = changing (heldBy (k .0)) stopped unchanged
+says (Wake k address opaque) a = changing (heldBy (k .0)) started (wakeRegisters address opaque)
+says (Off k) a = changing (heldBy (k .0)) poweredOff unchanged
+says (Await k kind x y) a = waiting (heldBy (k .0)) (waitFor kind x y)
+says (Status h) a = nothing
+says Home a = nothing
+says (Send sender c) a = sending (hartNumbered sender) none c
+says (Allow bits) a = saying stays [] [] (some bits)
+says (Add base size) a = saying stays (regionFrom base size ∷ []) [] none
+says (Remove base size) a = saying stays [] (regionFrom base size ∷ []) none
+says (Defined base size) a = nothing
 says (Broadcast k c) a = sending (heldBy (k .0)) (some c) c
 says (Process k) a = emptying (heldBy (k .0)) none
 says (Resume k) a = emptying (heldBy (k .0)) (taken a)
@@ -235,11 +203,6 @@ heard e = pick (isHeard e) (says (e .request) (e .answer)) nothing
 
 -- ---- one entry more
 
--- a new setup starts the log anew; any other entry stands before the others
-unfoldable pub notedIn : Option declared.Setup → Entry → Log → Log
-notedIn (some s) e l = log s []
-notedIn none e l = log (l .setup) (e ∷ l .entries)
-
--- the log with a request and its answer: an accepted setup starts it anew
-abbrev pub noted : FlowRequest → Answer → Log → Log
-noted request answer l = notedIn (heard (entry request answer) .setup) (entry request answer) l
+-- the log with a request and its answer
+abbrev pub noted : Request → Answer → Log → Log
+noted request answer l = log (l .setup) (entry request answer ∷ l .entries)

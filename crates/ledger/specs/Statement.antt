@@ -9,48 +9,46 @@ use lib.Dec.{eqb}
 use Rattle.error.specs.declared.Error.{Error}
 use Rattle.error.specs.declared.Error.the-variants.{ReachedMaxNumberOfRemoteCommands, TablesNotSound}
 use Rattle.bits.specs.Bit.{bit}
-use Rattle.table_rows.specs.Choice as choice
+use Rattle.table_rows.specs.Choice.{pick, exists}
+use Rattle.table_rows.specs.Rows.{over}
 use Rattle.confidential_vm_mmio_region.specs.declared.ConfidentialVmMmioRegion.{ConfidentialVmMmioRegion}
 use Rattle.mmio_regions.specs.Regions.{maxRegions}
 use Rattle.mmio_regions.specs.Table.{regionWords, wordsOf}
 use Rattle.confidential_hart_remote_command.specs.declared.ConfidentialHartRemoteCommand.{ConfidentialHartRemoteCommand}
 use Rattle.confidential_hart_remote_command.specs.Command as command
 use Rattle.remote_commands.specs.Queue.{maxCommands}
-use Rattle.effects.specs.Effects.{effectWords, shutsDown}
+use Rattle.effects.specs.Effects.{effectWords, effectsOf, shutsDown}
 use Rattle.hart_lifecycle_state.specs.Lifecycle.{poweredOff}
 use Rattle.confidential_hart.specs.declared.ConfidentialHart.{ConfidentialHart}
 use Rattle.confidential_hart.specs.declared.HardwareHartId.{HardwareHartId}
 use Rattle.confidential_hart.specs.Hart.{theVm, noOperation}
-use Rattle.hart_rows.specs.Rows.{toWords}
-use Rattle.monitor_requests.specs.declared.Setup as declared
-use Rattle.monitor_requests.specs.declared.Request.the-variants.{Setup, Send}
+use Rattle.hart_rows.specs.HartRows.{toWords}
+use Rattle.monitor_requests.specs.declared.Setup.{Setup}
+use Rattle.monitor_requests.specs.declared.Request.{Request}
+use Rattle.monitor_requests.specs.declared.Request.the-variants.{Send, Broadcast, Process, Resume}
 use Rattle.monitor_requests.specs.declared.Answer.{Answer}
 use Rattle.monitor_requests.specs.declared.Answer.the-variants.{Refused, Done, Mask, Count, Run, PoweredOff, Operation}
 use Rattle.monitor_requests.specs.Tables.{Tables, harts, hardwareHarts, homeHart, hardwareHart}
-use Rattle.monitor_requests.specs.Requests.{Outcome, performed}
-use Rattle.monitor_requests.specs.Writes.{Place, wordsAt, within, past, homeRow, hardwareRow, queueRow, regionTable, allowedMask, counts}
-use Rattle.flow_requests.specs.declared.FlowRequest.{FlowRequest}
-use Rattle.flow_requests.specs.declared.FlowRequest.the-variants.{Plain, Broadcast, Process, Resume}
-use Rattle.flow_requests.specs.FlowRequests.{FlowOutcome, flowRefusedOn, flowPerformed}
-use Rattle.flow_requests.specs.FlowWrites.{flowWrites}
-use Rattle.hart_standing.specs.Standing.{Standing, atHome, on, isOn}
-use Rattle.ledger.specs.Log.{Log, log, noted, accepted, Who, hart, heldBy, Wait}
-use Rattle.ledger.specs.Rows as rows
-use Rattle.ledger.specs.Rows.{isWho, place}
+use Rattle.monitor_requests.specs.Requests.{Outcome, answering, fresh, setUp, refusedOn, performed}
+use Rattle.monitor_requests.specs.Writes.{Place, wordsAt, within, past, homeRow, hardwareRow, queueRow, regionTable, allowedMask, counts, writes}
+use Rattle.hart_standing.specs.Standing.{Standing, atHome, onHardware, isOn}
+use Rattle.ledger.specs.Log.{Entry, entry, Log, log, accepted, Who, hartNumbered, heldBy, Wait, isSome, says, isHeard, heard, noted}
+use Rattle.ledger.specs.WorkedOut as rows
+use Rattle.ledger.specs.WorkedOut.{isWho, place, about, doneBy}
 
 -- ---- a run of the entries
 
 -- log l and tables t are left by a run: an accepted setup on any lent tables, and then any requests, each on the tables that the one before left
--- and with any effects room. What a step leaves is what its entry promises, word for word: `performed` of the setup, `flowPerformed` of a request
+-- and with any effects room. What a step leaves is what its entry promises, word for word: `setUp` of the setup, `performed` of a request
 pub data Left : Log → Tables → Type 0 where
-  setUp : (s : declared.Setup) (lent : Tables) (o : Outcome) → o ≡ performed (Setup s) lent → o .answer ≡ Done → Left (log s []) (o .after)
-  asked : (l : Log) (t : Tables) → Left l t → (request : FlowRequest) (effects : List ℕ) (o : FlowOutcome) → o ≡ flowPerformed request t effects
+  begins : (s : Setup) (lent : Tables) (o : Outcome) → o ≡ setUp s lent → o .answer ≡ Done → Left (log s []) (o .after)
+  asked : (l : Log) (t : Tables) → Left l t → (request : Request) (effects : List ℕ) (o : Outcome) → o ≡ performed request t effects
       → Left (noted request (o .answer) l) (o .after)
 
--- the same for a list of requests: a request, and the effects room that is lent with it
-pub record Ask : Type 0 where
-  pub request : FlowRequest
-  pub effects : List ℕ
+-- the same for a list: a setup again, or a request and the effects room that is lent with it
+pub data Ask : Type 0 where
+  again : Setup → Ask
+  ask : Request → List ℕ → Ask
 
 -- a log, and the tables that stand with it
 pub record Reached : Type 0 where
@@ -58,17 +56,22 @@ pub record Reached : Type 0 where
   pub standing : Tables
 
 -- the two, after an outcome
-abbrev pub reached : FlowRequest → FlowOutcome → Log → Reached
+abbrev pub reached : Request → Outcome → Log → Reached
 reached request o l = record { written = noted request (o .answer) l; standing = o .after }
+
+-- the two after a later setup: one that is accepted starts the log anew, and one that is refused is no entry and leaves both as they were
+abbrev pub reachedAgain : Setup → Outcome → Log → Reached
+reachedAgain s o l = record { written = pick (accepted (o .answer)) (log s []) l; standing = o .after }
 
 -- the two after requests, one after the other
 abbrev pub reachedBy : List Ask → Reached → Reached
 reachedBy [] x = x
-reachedBy (a ∷ more) x = reachedBy more (reached (a .request) (flowPerformed (a .request) (x .standing) (a .effects)) (x .written))
+reachedBy (again s ∷ more) x = reachedBy more (reachedAgain s (setUp s (x .standing)) (x .written))
+reachedBy (ask request effects ∷ more) x = reachedBy more (reached request (performed request (x .standing) effects) (x .written))
 
 -- the two after an accepted setup
-abbrev pub begun : declared.Setup → Tables → Reached
-begun s lent = record { written = log s []; standing = performed (Setup s) lent .after }
+abbrev pub begun : Setup → Tables → Reached
+begun s lent = record { written = log s []; standing = setUp s lent .after }
 
 -- ---- every row
 
@@ -125,7 +128,7 @@ pub record StandsOnly (t : Tables) (h : ℕ) (r : Row) : Type 0 where
 -- the row of hart h, by its place
 abbrev pub rowAt : Standing → ℕ → Row
 rowAt atHome h = home h
-rowAt (on k) h = hardware k
+rowAt (onHardware k) h = hardware k
 
 -- ---- what a request may do next
 
@@ -136,17 +139,17 @@ isReceiver c sender l h =
 
 -- some hart that receives has 64 commands already, by the log
 abbrev pub someFull : ConfidentialHartRemoteCommand → Who → Log → Bool
-someFull c sender l = choice.some (λ h. isReceiver c sender l h && rows.full (rows.queue (l .setup) (l .entries) h)) (l .setup .harts)
+someFull c sender l = exists (λ h. isReceiver c sender l h && rows.full (rows.queue (l .setup) (l .entries) h)) (l .setup .harts)
 
 -- what a broadcast answers: a mask where no receiver is full, and bit k of it is 1 exactly when some receiver stands on hardware hart k
 pub record MaskOf (c : ConfidentialHartRemoteCommand) (sender : Who) (l : Log) (mask : ℕ) : Type 0 where
   pub none-full : someFull c sender l ≡ false
-  pub bits : (k : ℕ) → eqb (bit k mask) 1 ≡ choice.some (λ h. isReceiver c sender l h && isOn k (place (l .entries) h)) (l .setup .harts)
+  pub bits : (k : ℕ) → eqb (bit k mask) 1 ≡ exists (λ h. isReceiver c sender l h && isOn k (place (l .entries) h)) (l .setup .harts)
 
 -- hart h is the one that stands on hardware hart k, by the log
 pub record On (k : ℕ) (l : Log) (h : ℕ) : Type 0 where
   pub there : h < l .setup .harts
-  pub on-it : place (l .entries) h ≡ on k
+  pub on-it : place (l .entries) h ≡ onHardware k
 
 -- what a process answers: the length of the queue of the hart on hardware hart k
 pub record CountOf (k : ℕ) (l : Log) (count : ℕ) : Type 0 where
@@ -157,15 +160,32 @@ pub record CountOf (k : ℕ) (l : Log) (count : ℕ) : Type 0 where
 -- what a hart with that lifecycle that waits for that goes on with: off if PoweredOff; else its operation; else it runs
 abbrev pub goingOn : ℕ → Wait → Answer
 goingOn lifecycle wait =
-    choice.pick (eqb lifecycle poweredOff) PoweredOff (choice.pick (eqb (wait .kind) noOperation) Run (Operation (wait .kind) (wait .x) (wait .y)))
+    pick (eqb lifecycle poweredOff) PoweredOff (pick (eqb (wait .kind) noOperation) Run (Operation (wait .kind) (wait .x) (wait .y)))
 
 -- what a resume answers: what the hart on hardware hart k goes on with, once it did its queue
 pub record ResumeOf (k : ℕ) (l : Log) (answer : Answer) : Type 0 where
   pub hart : ℕ
   pub stands : On k l hart
   pub answer-is : answer
-      ≡ goingOn (choice.pick (shutsDown (rows.queue (l .setup) (l .entries) hart)) poweredOff (rows.lifecycle (l .setup) (l .entries) hart))
+      ≡ goingOn (pick (shutsDown (rows.queue (l .setup) (l .entries) hart)) poweredOff (rows.lifecycle (l .setup) (l .entries) hart))
       (rows.operation (l .entries) hart)
+
+-- what hart h does by the next entry, if it is about h: the commands of its queue, in order, or the one that it sends, if it is selected
+abbrev pub doesThen : Entry → Log → ℕ → List ConfidentialHartRemoteCommand
+doesThen e l h = doneBy (heard e) (rows.queue (l .setup) (l .entries) h) h
+
+-- an outcome counts as many effect records as commands, and has over the front of the effects room those of hart h for them, in order
+pub record RecordsOf (h : ℕ) (cs : List ConfidentialHartRemoteCommand) (effects : List ℕ) (o : Outcome) : Type 0 where
+  pub did-is : o .did ≡ length cs
+  pub room-is : o .effects ≡ over (effectsOf h cs) effects
+
+-- the effect records that the next entry leaves. Process and resume leave those of a queue, and a broadcast that of its sender, also with 8
+pub record RecordsAre (l : Log) (e : Entry) (effects : List ℕ) (o : Outcome) : Type 0 where
+  -- an entry about hart h leaves those of what h does, by the log
+  pub of-hart : (h : ℕ) → h < l .setup .harts → about e (l .entries) h ≡ true → RecordsOf h (doesThen e l h) effects o
+  -- an entry about none of the harts, such as any other refusal, leaves none
+  pub did-none : exists (about e (l .entries)) (l .setup .harts) ≡ false → o .did ≡ 0
+  pub room-kept : exists (about e (l .entries)) (l .setup .harts) ≡ false → o .effects ≡ effects
 
 -- how many words each table has
 abbrev pub lengths : Tables → List ℕ
@@ -176,19 +196,23 @@ abbrev pub pastEnd : Tables → Tables → Tables
 pastEnd t = past (harts t) (hardwareHarts t)
 
 -- an outcome o of a request on tables t with log l
-pub record Next (l : Log) (t : Tables) (request : FlowRequest) (effects : List ℕ) (o : FlowOutcome) : Type 0 where
+pub record Next (l : Log) (t : Tables) (request : Request) (effects : List ℕ) (o : Outcome) : Type 0 where
   -- equal inputs allow one outcome
-  pub one-outcome : (other : FlowOutcome) → other ≡ flowPerformed request t effects → other ≡ o
+  pub one-outcome : (other : Outcome) → other ≡ performed request t effects → other ≡ o
   -- 12 never occurs
   pub never-12 : o .answer ≢ Refused TablesNotSound
-  -- a refusal changes nothing but for 8
-  pub refusal-alone : (e : Error) → o .answer ≡ Refused e → e ≢ ReachedMaxNumberOfRemoteCommands → o ≡ flowRefusedOn t effects e
+  -- a refusal changes nothing, unless the log hears it: 8 of a Send or a Broadcast
+  pub refusal-alone : (e : Error) → o .answer ≡ Refused e → isHeard (entry request (Refused e)) ≡ false → o ≡ refusedOn t effects e
+  -- 8 is given to these two alone: the request sends a command
+  pub only-broadcasts-8 : o .answer ≡ Refused ReachedMaxNumberOfRemoteCommands → isSome (says request (o .answer) .sends) ≡ true
   -- the request writes only the places that are named for it
-  pub writes-only : (p : Place) → within p t ≡ true → flowWrites request t p ≡ false → wordsAt p (o .after) ≡ wordsAt p t
+  pub writes-only : (p : Place) → within p t ≡ true → writes request t p ≡ false → wordsAt p (o .after) ≡ wordsAt p t
   -- no word past the tables, and each table is as long as it was
   pub past-kept : pastEnd (o .after) (o .after) ≡ pastEnd (o .after) t
   pub as-long : lengths (o .after) ≡ lengths t
-  -- and of the effects room only the records that it counts, which lie within it
+  -- the effect records are those that the log says
+  pub records-are : RecordsAre l (entry request (o .answer)) effects o
+  -- of the effects room only the records that are counted are written, which lie within it
   pub effects-kept : drop (o .did * effectWords) (o .effects) ≡ drop (o .did * effectWords) effects
   pub effects-fit : o .did * effectWords ≤ length effects
   pub effects-as-long : length (o .effects) ≡ length effects
@@ -200,13 +224,24 @@ pub record Next (l : Log) (t : Tables) (request : FlowRequest) (effects : List �
   pub broadcast-8 : (k : HardwareHartId) (c : ConfidentialHartRemoteCommand) → request ≡ Broadcast k c
       → o .answer ≡ Refused ReachedMaxNumberOfRemoteCommands
       → someFull c (heldBy (k .0)) l ≡ true
-  pub send-masked : (sender : ℕ) (c : ConfidentialHartRemoteCommand) (mask : ℕ) → request ≡ Plain (Send sender c) → o .answer ≡ Mask mask
-      → MaskOf c (hart sender) l mask
-  pub send-8 : (sender : ℕ) (c : ConfidentialHartRemoteCommand) → request ≡ Plain (Send sender c)
+  pub send-masked : (sender : ℕ) (c : ConfidentialHartRemoteCommand) (mask : ℕ) → request ≡ Send sender c → o .answer ≡ Mask mask
+      → MaskOf c (hartNumbered sender) l mask
+  pub send-8 : (sender : ℕ) (c : ConfidentialHartRemoteCommand) → request ≡ Send sender c
       → o .answer ≡ Refused ReachedMaxNumberOfRemoteCommands
-      → someFull c (hart sender) l ≡ true
+      → someFull c (hartNumbered sender) l ≡ true
   -- a resume that is accepted answers what its hart goes on with
   pub resumed : (k : HardwareHartId) → request ≡ Resume k → accepted (o .answer) ≡ true → ResumeOf (k .0) l (o .answer)
+
+-- an outcome o of a later setup on tables t: one that is refused is no entry of the log, and one that is done starts the log anew, by `begins`
+pub record NextSetup (t : Tables) (s : Setup) (o : Outcome) : Type 0 where
+  pub one-outcome : (other : Outcome) → other ≡ setUp s t → other ≡ o
+  pub never-12 : o .answer ≢ Refused TablesNotSound
+  -- a refusal changes nothing
+  pub refusal-alone : (e : Error) → o .answer ≡ Refused e → o ≡ refusedOn t [] e
+  -- one that is done leaves the fresh tables of that setup
+  pub done-fresh : o .answer ≡ Done → o ≡ answering Done (fresh s t) []
+  pub past-kept : pastEnd (o .after) (o .after) ≡ pastEnd (o .after) t
+  pub as-long : lengths (o .after) ≡ lengths t
 
 -- ---- the whole
 
@@ -217,4 +252,6 @@ pub record Kept (l : Log) (t : Tables) : Type 0 where
   -- each real hart stands in one row, the one that the log says, and in no other
   pub one-place : (h : ℕ) → h < l .setup .harts → StandsOnly t h (rowAt (place (l .entries) h) h)
   -- and whatever is asked next, with any effects room, what meets the entry's promise is as it must be
-  pub next : (request : FlowRequest) (effects : List ℕ) (o : FlowOutcome) → o ≡ flowPerformed request t effects → Next l t request effects o
+  pub next : (request : Request) (effects : List ℕ) (o : Outcome) → o ≡ performed request t effects → Next l t request effects o
+  -- the same for a setup
+  pub next-setup : (s : Setup) (o : Outcome) → o ≡ setUp s t → NextSetup t s o

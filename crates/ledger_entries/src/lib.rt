@@ -1,9 +1,9 @@
 // The steps of a run as code: a setup that is accepted starts one, any request goes on with it, and every row is the row worked out from the log.
-ghost use Rattle.monitor_requests.specs.Tables.{tables};
+ghost use Rattle.monitor_requests.specs.LentTables.{before, after};
 ghost use Rattle.ledger_entries.specs.Steps.{Begun, Asked};
-use flow_requests::FlowAnswer;
-use flow_requests::FlowRequest;
 use monitor_requests::Answer;
+use monitor_requests::Reply;
+use monitor_requests::Request;
 use monitor_requests::Setup;
 
 // Sets up one VM in the tables. If it is done, a run left them, with the log of that setup and nothing asked since.
@@ -15,22 +15,23 @@ pub fn new(
     queues: &mut [u64],
     regions: &mut [u64],
 ) -> Answer
-    ensures { λ r. ⌜ Begun setup (tables (now (head .entry)) (now (home .entry)) (now (hardware .entry)) (now (queues .entry)) (now (regions .entry))) r (tables (now (head .exit)) (now (home .exit)) (now (hardware .exit)) (now (queues .exit)) (now (regions .exit))) ⌝ }
+    ensures { λ r. ⌜ Begun setup (before head home hardware queues regions) r (after head home hardware queues regions) ⌝ }
 {
     confidential_vm_setup::new(setup, head, home, hardware, queues, regions)
 }
 
 // Performs any request. If a run left the tables with a log, a run leaves them now with that log and the request and its answer noted in it.
 pub fn perform(
-    request: FlowRequest,
+    request: Request,
     head: &mut [u64],
     home: &mut [u64],
     hardware: &mut [u64],
     queues: &mut [u64],
     regions: &mut [u64],
     effects: &mut [u64],
-) -> FlowAnswer
-    ensures { λ r. ⌜ Asked request (tables (now (head .entry)) (now (home .entry)) (now (hardware .entry)) (now (queues .entry)) (now (regions .entry))) (now (effects .entry)) r (tables (now (head .exit)) (now (home .exit)) (now (hardware .exit)) (now (queues .exit)) (now (regions .exit))) (now (effects .exit)) ⌝ }
+) -> Reply
+    ensures { λ r. ⌜ Asked request (before head home hardware queues regions) (now (effects .entry))
+        r (after head home hardware queues regions) (now (effects .exit)) ⌝ }
 {
     perform_request::perform(request, head, home, hardware, queues, regions, effects)
 }

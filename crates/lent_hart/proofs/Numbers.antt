@@ -11,8 +11,7 @@ use base.Logic.{ent, sep, via}
 use base.Fml.{Fml, ftrue, froom, fdies, fat}
 use prog.Wp.{Heap, Env, Spot, spotOf, walk}
 use ghost.Atoms.{Atoms}
-use types.Kit.{Given, Item, ‵, _⊛_, mean, ⋆, nth, del, pull, unpull, push, pop, Goal, allocs, passes, frees, prop}
-use types.Kit.{Seq, Step, step, _$_, move, group, split3, drop, fjoin, done}
+use types.Kit.{Given, Item, ‵, _⊛_, mean, ⋆, nth, del, pull, unpull, push, pop, Goal, allocs, passes, frees, prop, Seq, Step, step, _$_, move, group, split3, drop, fjoin, done}
 use types.Run.{Walks, Finds, Opds, look, init, forget, stop, load, and-then, no-more, alloc1, pass1, pass0, free1}
 use contract.Lifetimes.{Lfts}
 use denote.RattleType.{RattleType, Denots, Valss, flat, owns}

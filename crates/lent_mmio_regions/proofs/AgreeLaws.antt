@@ -23,13 +23,13 @@ use Rattle.mmio_regions.specs.Table.{regionWords, wordsOf, regionsSound}
 use Rattle.mmio_regions.specs.Table as table
 use Rattle.mmio_regions.proofs.TableLaws.{words-length, words-append, standing-of}
 use Rattle.monitor_requests.specs.declared.Request.{Request}
-use Rattle.monitor_requests.specs.declared.Request.the-variants.{Setup, Add, Remove, Defined}
-use Rattle.monitor_requests.specs.declared.Setup as declared
+use Rattle.monitor_requests.specs.declared.Request.the-variants.{Add, Remove, Defined}
+use Rattle.monitor_requests.specs.declared.Setup.{Setup}
 use Rattle.monitor_requests.specs.declared.Answer.the-variants.{Done}
 use Rattle.monitor_requests.specs.Tables.{Tables, regionsWord, regionCount, regionsOf, sound}
 use Rattle.monitor_requests.specs.Requests as entry
-use Rattle.monitor_requests.specs.Requests.{Test, judged, refusedOn, unsound, tooLarge, withRegions, tests, effect, performed}
-use Rattle.monitor_requests.proofs.JudgedLaws.{isSetup, unsound-refused}
+use Rattle.monitor_requests.specs.Requests.{Test, judged, refusedOn, tooLarge, withRegions, tests, effect, performed, setUp}
+use Rattle.monitor_requests.proofs.JudgedLaws.{unsound-refused}
 use Rattle.monitor_requests.proofs.SoundLaws.{sound-facts}
 use Rattle.monitor_requests.proofs.SetupLaws.{setup-done, setup-sound}
 use Rattle.monitor_requests.proofs.RegionLaws.{add-sound, remove-sound}
@@ -42,7 +42,7 @@ use Rattle.lent_mmio_regions.specs.Run.{
   Run,
   run,
   relaid,
-  Outcome,
+  RunChange,
   refused,
   checked,
   added,
@@ -172,7 +172,7 @@ by-picks P false f g = g refl
 
 -- what adding gives on a run, by its last two tests
 module _ (rs : List ConfidentialVmMmioRegion) (count : ℕ) (q : ConfidentialVmMmioRegion) (l : count ≤ length rs) where
-  abbrev more : Outcome
+  abbrev more : RunChange
   more = record { number = done; after = relaid rs count (standing rs count ++ (q ∷ [])) }
 
   by-two-tests : (full over : Bool)
@@ -222,7 +222,7 @@ module _ (t : Tables) (rs : List ConfidentialVmMmioRegion) (count : ℕ) (h : Ho
       }
 
   -- a refusal by the same number agrees
-  refusal-agrees : (e : Error) → Agrees (refusedOn t e) (refused rs count (numberOf e))
+  refusal-agrees : (e : Error) → Agrees (refusedOn t [] e) (refused rs count (numberOf e))
   refusal-agrees e = record { same = refl; after = h }
 
   module _ (others : OthersSound t) (base size : ℕ) where
@@ -231,11 +231,11 @@ module _ (t : Tables) (rs : List ConfidentialVmMmioRegion) (count : ℕ) (h : Ho
 
     -- 12 and 11 are given by both or by neither
     by-checks : {A : Type 0} (P : entry.Outcome → A → Type 0) (r : Request) (more : List Test) (f : ℕ → A) {next : A}
-        → tests r t ≡ unsound t ∷ tooLarge base size ∷ more
-        → P (refusedOn t TablesNotSound) (f tablesNotSound)
-        → P (refusedOn t EndTooLarge) (f endTooLarge)
-        → (runSound rs count ≡ true → P (judged (refusedOn t) more (effect r t)) next)
-        → P (performed r t) (checked f rs count base size next)
+        → tests r t [] ≡ tooLarge base size ∷ more
+        → P (refusedOn t [] TablesNotSound) (f tablesNotSound)
+        → P (refusedOn t [] EndTooLarge) (f endTooLarge)
+        → (runSound rs count ≡ true → P (judged (refusedOn t []) more (effect r t [])) next)
+        → P (performed r t []) (checked f rs count base size next)
     unfolding performed checked
     by-checks P r more f e twelve eleven rest =
         rw (e, soundness)
@@ -243,7 +243,7 @@ module _ (t : Tables) (rs : List ConfidentialVmMmioRegion) (count : ℕ) (h : Ho
         (λ s. by-picks P (ltb maxEnd (base + size)) (λ _. eleven) (λ _. rest (not-false (runSound rs count) s))))
 
     -- add: the same number, and the tables afterwards hold the run afterwards
-    pub add-agrees : Agrees (performed (Add base size) t) (added rs count base size)
+    pub add-agrees : Agrees (performed (Add base size) t []) (added rs count base size)
     unfolding added tests effect
     add-agrees =
         by-checks Agrees (Add base size) _ (refused rs count) refl (refusal-agrees TablesNotSound) (refusal-agrees EndTooLarge) (λ s.
@@ -254,7 +254,7 @@ module _ (t : Tables) (rs : List ConfidentialVmMmioRegion) (count : ℕ) (h : Ho
         (λ _. record { same = refl; after = laid-holds (soundness ∙ s) (standing rs count ++ (regionFrom base size ∷ [])) }))))
 
     -- the same for remove
-    pub remove-agrees : Agrees (performed (Remove base size) t) (removed rs count base size)
+    pub remove-agrees : Agrees (performed (Remove base size) t []) (removed rs count base size)
     unfolding removed tests effect
     remove-agrees =
         by-checks Agrees (Remove base size) [] (refused rs count) refl (refusal-agrees TablesNotSound) (refusal-agrees EndTooLarge) (λ s.
@@ -262,7 +262,7 @@ module _ (t : Tables) (rs : List ConfidentialVmMmioRegion) (count : ℕ) (h : Ho
         (record { same = refl; after = laid-holds (soundness ∙ s) (withRemoved (regionFrom base size) (standing rs count)) }))
 
     -- defined: the same number and flag, and the tables as they were
-    pub defined-agrees : AgreesOnFlag t (performed (Defined base size) t) (defined rs count base size)
+    pub defined-agrees : AgreesOnFlag t (performed (Defined base size) t []) (defined rs count base size)
     unfolding defined tests effect pick
     defined-agrees =
         by-checks (AgreesOnFlag t) (Defined base size) [] (λ (n : ℕ). record { number = n; defined = false }) refl
@@ -278,31 +278,31 @@ others-sound t s = s ∙ sym (sound-facts t s .regions-sound)
 
 module _ (t : Tables) (others : OthersSound t) where
   -- nor after a request that keeps sound tables sound
-  others-kept : (r : Request) → isSetup r ≡ false → (sound t ≡ true → sound (performed r t .after) ≡ true)
-      → OthersSound (performed r t .after)
-  others-kept r other keeps =
+  others-kept : (r : Request) → (sound t ≡ true → sound (performed r t [] .after) ≡ true)
+      → OthersSound (performed r t [] .after)
+  others-kept r keeps =
       by-test (sound t)
-      (λ s. others-sound (performed r t .after) (keeps s))
-      (λ s. subst (λ (o : entry.Outcome). OthersSound (o .after)) (sym (unsound-refused r t other s)) others)
+      (λ s. others-sound (performed r t [] .after) (keeps s))
+      (λ s. subst (λ (o : entry.Outcome). OthersSound (o .after)) (sym (unsound-refused r t [] s)) others)
 
   -- so the next request agrees too
-  pub add-others : (base size : ℕ) → OthersSound (performed (Add base size) t .after)
-  add-others base size = others-kept (Add base size) refl (add-sound base size t)
+  pub add-others : (base size : ℕ) → OthersSound (performed (Add base size) t [] .after)
+  add-others base size = others-kept (Add base size) (add-sound base size t [])
 
-  pub remove-others : (base size : ℕ) → OthersSound (performed (Remove base size) t .after)
-  remove-others base size = others-kept (Remove base size) refl (remove-sound base size t)
+  pub remove-others : (base size : ℕ) → OthersSound (performed (Remove base size) t [] .after)
+  remove-others base size = others-kept (Remove base size) (remove-sound base size t [])
 
 -- ---- where it begins
 
 -- tables that an accepted setup leaves, with as many words for regions as 1,024 records have, hold the run in which none stands
-pub setup-holds : (s : declared.Setup) (t : Tables) → performed (Setup s) t .answer ≡ Done
+pub setup-holds : (s : Setup) (t : Tables) → setUp s t .answer ≡ Done
     → t .regions ≡ replicate (maxRegions * regionWords) 0
-    → Holds (performed (Setup s) t .after) (run 0 (replicate maxRegions unused)) × OthersSound (performed (Setup s) t .after)
+    → Holds (setUp s t .after) (run 0 (replicate maxRegions unused)) × OthersSound (setUp s t .after)
 unfolding wordsOf
 setup-holds s t e zeros = (
   record {
     words = ap (λ (u : Tables). u .regions) (setup-done s t e) ∙ ap (over (replicate (maxRegions * regionWords) 0)) zeros;
     counted = ap regionCount (setup-done s t e);
   },
-  others-sound (performed (Setup s) t .after) (setup-sound s t e),
+  others-sound (setUp s t .after) (setup-sound s t e),
 )

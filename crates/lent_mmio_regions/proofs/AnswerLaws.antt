@@ -25,8 +25,8 @@ use Rattle.lent_mmio_regions.specs.Run.{
   Run,
   run,
   relaid,
-  Outcome,
-  outcome,
+  RunChange,
+  runChange,
   refused,
   checked,
   added,
@@ -170,11 +170,11 @@ module _ (rs : List ConfidentialVmMmioRegion) (count base size : ℕ) where
   pub remove-room : eqb (refusal s base size) done ≡ true → count ≤ length rs
   remove-room e = omega (arith, passed-room e, passed-few e)
 
-  abbrev fewer : Outcome
+  abbrev fewer : RunChange
   fewer = record { number = done; after = relaid rs count (withRemoved (regionFrom base size) here) }
 
   pub remove-done : eqb (refusal s base size) done ≡ true → (left : ℕ) (zs : List ConfidentialVmMmioRegion)
-      → run left zs ≡ relaid rs count (withRemoved q here) → outcome (changed done left) zs ≡ removed rs count base size
+      → run left zs ≡ relaid rs count (withRemoved q here) → runChange (changed done left) zs ≡ removed rs count base size
   unfolding removed
   remove-done e left zs p =
       ap (λ (r : Run). record { number = done; after = r })
@@ -182,13 +182,13 @@ module _ (rs : List ConfidentialVmMmioRegion) (count base size : ℕ) where
       ∙ follows e (refused rs count) fewer
 
   pub remove-refused : eqb (refusal s base size) done ≡ false
-      → outcome (changed (refusal s base size) count) rs ≡ removed rs count base size
+      → runChange (changed (refusal s base size) count) rs ≡ removed rs count base size
   unfolding removed
   remove-refused e = refuses e (refused rs count) fewer
 
   -- ---- add
 
-  abbrev new : Outcome
+  abbrev new : RunChange
   new = record {
     number = addNumber (regionFrom base size) here;
     after = relaid rs count (withAdded (regionFrom base size) here);
@@ -217,9 +217,9 @@ module _ (rs : List ConfidentialVmMmioRegion) (count base size : ℕ) where
       }
 
   -- what holds of a refusal with the run as it was, and of a region added last, holds of the answer and what is promised
-  module _ (P : Changed → Outcome → Type 0) where
-    both : {a b : Changed} {c d : Outcome} → a ≡ b → c ≡ d → P a c → P b d
-    both {a} {b} {c} {d} p r x = subst (λ (y : Outcome). P b y) r (subst (λ (y : Changed). P y c) p x)
+  module _ (P : Changed → RunChange → Type 0) where
+    both : {a b : Changed} {c d : RunChange} → a ≡ b → c ≡ d → P a c → P b d
+    both {a} {b} {c} {d} p r x = subst (λ (y : RunChange). P b y) r (subst (λ (y : Changed). P y c) p x)
 
     by-answer : ((n : ℕ) → eqb n done ≡ false → P (changed n count) (refused rs count n))
         → (count < length rs → P (changed done (count + 1)) (record { number = done; after = run (count + 1) (set rs count q) }))
@@ -252,20 +252,20 @@ module _ (rs : List ConfidentialVmMmioRegion) (count base size : ℕ) where
 
   pub add-room : eqb (addAnswer s count base size .number) done ≡ true → count < length rs
   add-room =
-      by-answer (λ (c : Changed) (o : Outcome). eqb (c .number) done ≡ true → count < length rs)
+      by-answer (λ (c : Changed) (o : RunChange). eqb (c .number) done ≡ true → count < length rs)
       (λ n other d. absurd (false≢true (sym other ∙ d)))
       (λ l _. l)
 
   pub add-stored : eqb (addAnswer s count base size .number) done ≡ true
-      → outcome (addAnswer s count base size) (set rs count q) ≡ added rs count base size
+      → runChange (addAnswer s count base size) (set rs count q) ≡ added rs count base size
   add-stored =
-      by-answer (λ (c : Changed) (o : Outcome). eqb (c .number) done ≡ true → outcome c (set rs count q) ≡ o)
+      by-answer (λ (c : Changed) (o : RunChange). eqb (c .number) done ≡ true → runChange c (set rs count q) ≡ o)
       (λ n other d. absurd (false≢true (sym other ∙ d)))
       (λ _ _. refl)
 
   pub add-kept : eqb (addAnswer s count base size .number) done ≡ false
-      → outcome (addAnswer s count base size) rs ≡ added rs count base size
+      → runChange (addAnswer s count base size) rs ≡ added rs count base size
   add-kept =
-      by-answer (λ (c : Changed) (o : Outcome). eqb (c .number) done ≡ false → outcome c rs ≡ o)
+      by-answer (λ (c : Changed) (o : RunChange). eqb (c .number) done ≡ false → runChange c rs ≡ o)
       (λ n _ _. refl)
       (λ _ d. absurd (false≢true (sym d)))

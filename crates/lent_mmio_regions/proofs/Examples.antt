@@ -10,10 +10,10 @@ use Rattle.table_rows.specs.Lists.{anyOf, allOf}
 use Rattle.confidential_vm_mmio_region.specs.declared.ConfidentialVmMmioRegion.{ConfidentialVmMmioRegion}
 use Rattle.confidential_vm_mmio_region.specs.Region.{regionOf}
 use Rattle.mmio_regions.specs.Regions.{addNumber, withAdded, withRemoved}
-use Rattle.lent_mmio_regions.specs.Run.{unused, runSound, laid, run, Outcome, checked, added, removed, defined}
+use Rattle.lent_mmio_regions.specs.Run.{unused, runSound, laid, run, RunChange, checked, added, removed, defined}
 
 -- an outcome by its parts
-abbrev leaves : ℕ → ℕ → List ConfidentialVmMmioRegion → Outcome
+abbrev leaves : ℕ → ℕ → List ConfidentialVmMmioRegion → RunChange
 leaves number count records = record { number = number; after = run count records }
 
 -- a run in which the first two records stand; one more record lies past the last place, and belongs to no table

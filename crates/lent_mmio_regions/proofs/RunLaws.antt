@@ -28,7 +28,7 @@ use Rattle.lent_mmio_regions.specs.Run.{
   Run,
   run,
   relaid,
-  Outcome,
+  RunChange,
   checked,
   added,
   removed,
@@ -75,15 +75,15 @@ module _ (rs : List ConfidentialVmMmioRegion) (count base size : ℕ) where
   pub add-refusal-alone : added rs count base size .number ≢ done → added rs count base size .after ≡ run count rs
   unfolding added
   add-refusal-alone =
-      by-checked (λ (o : Outcome). o .number ≢ done → o .after ≡ run count rs) _ _ (λ _ _. refl) (λ _ _. refl)
+      by-checked (λ (o : RunChange). o .number ≢ done → o .after ≡ run count rs) _ _ (λ _ _. refl) (λ _ _. refl)
       (λ s other.
       let n : ℕ = addNumber (regionFrom base size) (standing rs count) in
-      sym (ap (λ (o : Outcome). o .after) (not-added rs count base size n (sound-within s) refl (ne-eqb n done other))))
+      sym (ap (λ (o : RunChange). o .after) (not-added rs count base size n (sound-within s) refl (ne-eqb n done other))))
 
   pub remove-refusal-alone : removed rs count base size .number ≢ done → removed rs count base size .after ≡ run count rs
   unfolding removed
   remove-refusal-alone =
-      by-checked (λ (o : Outcome). o .number ≢ done → o .after ≡ run count rs) _ _ (λ _ _. refl) (λ _ _. refl)
+      by-checked (λ (o : RunChange). o .number ≢ done → o .after ≡ run count rs) _ _ (λ _ _. refl) (λ _ _. refl)
       (λ _ other. absurd (other refl))
 
   -- ---- 12 is given exactly when the run is not sound
@@ -104,11 +104,11 @@ module _ (rs : List ConfidentialVmMmioRegion) (count base size : ℕ) where
   pub add-twelve-exactly : (added rs count base size .number ≡ tablesNotSound) ↔ (runSound rs count ≡ false)
   unfolding added
   add-twelve-exactly =
-      twelve-exactly (λ (o : Outcome). o .number) _ _ (λ _. refl) (add-never-twelve (regionFrom base size) (standing rs count))
+      twelve-exactly (λ (o : RunChange). o .number) _ _ (λ _. refl) (add-never-twelve (regionFrom base size) (standing rs count))
 
   pub remove-twelve-exactly : (removed rs count base size .number ≡ tablesNotSound) ↔ (runSound rs count ≡ false)
   unfolding removed
-  remove-twelve-exactly = twelve-exactly (λ (o : Outcome). o .number) _ _ (λ _. refl) (λ p. omega (arith, p))
+  remove-twelve-exactly = twelve-exactly (λ (o : RunChange). o .number) _ _ (λ _. refl) (λ p. omega (arith, p))
 
   pub defined-twelve-exactly : (defined rs count base size .number ≡ tablesNotSound) ↔ (runSound rs count ≡ false)
   unfolding defined
@@ -158,7 +158,7 @@ module _ (rs : List ConfidentialVmMmioRegion) (count : ℕ) where
   pub add-keeps : (base size : ℕ) → Keeps rs count (added rs count base size .after)
   unfolding added
   add-keeps base size =
-      by-checked rs count base size (λ (o : Outcome). Keeps rs count (o .after)) _ _ (λ _. same-keeps) (λ _. same-keeps)
+      by-checked rs count base size (λ (o : RunChange). Keeps rs count (o .after)) _ _ (λ _. same-keeps) (λ _. same-keeps)
       (λ s.
       relaid-keeps s (withAdded (regionFrom base size) (standing rs count))
       (added-few (regionFrom base size) (standing rs count) (few-stand s))
@@ -167,7 +167,7 @@ module _ (rs : List ConfidentialVmMmioRegion) (count : ℕ) where
   pub remove-keeps : (base size : ℕ) → Keeps rs count (removed rs count base size .after)
   unfolding removed
   remove-keeps base size =
-      by-checked rs count base size (λ (o : Outcome). Keeps rs count (o .after)) _ _ (λ _. same-keeps) (λ _. same-keeps)
+      by-checked rs count base size (λ (o : RunChange). Keeps rs count (o .after)) _ _ (λ _. same-keeps) (λ _. same-keeps)
       (λ s.
       relaid-keeps s (withRemoved (regionFrom base size) (standing rs count))
       (omega (arith, removed-few (regionFrom base size) (standing rs count), few-stand s))

@@ -7,9 +7,10 @@ use Rattle.table_rows.specs.Choice.{pick}
 use Rattle.mmio_regions.specs.Table.{wordsOf, regionsSound}
 use Rattle.mmio_region_survey.specs.declared.Defined.{Defined}
 use Rattle.monitor_requests.specs.Tables.{Tables, regionCount, sound}
-use Rattle.monitor_requests.specs.Answers.{Given, given}
+use Rattle.monitor_requests.specs.declared.Word.the-variants.{NoWord}
+use Rattle.monitor_requests.specs.Answers.{Given, gives, given}
 use Rattle.monitor_requests.specs.Requests as entry
-use Rattle.lent_mmio_regions.specs.Run.{Run, Outcome}
+use Rattle.lent_mmio_regions.specs.Run.{Run, RunChange}
 
 -- the tables hold the run
 pub record Holds (t : Tables) (r : Run) : Type 0 where
@@ -23,15 +24,15 @@ abbrev pub OthersSound : Tables → Type 0
 OthersSound t = sound t ≡ regionsSound (t .regions) (regionCount t)
 
 -- what an entry gives is what add or remove gives on the run
-pub record Agrees (o : entry.Outcome) (r : Outcome) : Type 0 where
-  -- the same number, and no value follows it
-  pub same : given (o .answer) ≡ record { number = r .number; values = [] }
+pub record Agrees (o : entry.Outcome) (r : RunChange) : Type 0 where
+  -- the same number, and nothing follows it
+  pub same : given (o .answer) ≡ gives (r .number) NoWord []
   -- the tables afterwards hold the run afterwards
   pub after : Holds (o .after) (r .after)
 
 -- the number and the flag of an answer as an entry gives them: a refusal gives its number alone
 abbrev pub flagGiven : Defined → Given
-flagGiven d = record { number = d .number; values = pick (eqb (d .number) done) (pick (d .defined) 1 0 ∷ []) [] }
+flagGiven d = gives (d .number) NoWord (pick (eqb (d .number) done) (pick (d .defined) 1 0 ∷ []) [])
 
 -- what an entry gives on tables is what asking for a region gives on the run
 pub record AgreesOnFlag (t : Tables) (o : entry.Outcome) (d : Defined) : Type 0 where

@@ -55,16 +55,16 @@ abbrev pub without : ConfidentialVmMmioRegion → List ConfidentialVmMmioRegion 
 without q records count = relaid records count (withRemoved q (standing records count))
 
 -- the number given, and the run then standing
-pub record Outcome : Type 0 where
+pub record RunChange : Type 0 where
   pub number : ℕ
   pub after : Run
 
 -- what add or remove answered, and the records it left
-abbrev pub outcome : Changed → List ConfidentialVmMmioRegion → Outcome
-outcome r records = record { number = r .number; after = run (r .count) records }
+abbrev pub runChange : Changed → List ConfidentialVmMmioRegion → RunChange
+runChange r records = record { number = r .number; after = run (r .count) records }
 
 -- a refusal leaves the run as it was
-abbrev pub refused : List ConfidentialVmMmioRegion → ℕ → ℕ → Outcome
+abbrev pub refused : List ConfidentialVmMmioRegion → ℕ → ℕ → RunChange
 refused records count number = record { number = number; after = run count records }
 
 -- the checks of every request in their order: 12, judged on the run alone, and then 11
@@ -73,7 +73,7 @@ checked refusal records count base size next =
     pick (not (runSound records count)) (refusal tablesNotSound) (pick (ltb maxEnd (base + size)) (refusal endTooLarge) next)
 
 -- add: 12, 11, then 9, 10
-unfoldable pub added : List ConfidentialVmMmioRegion → ℕ → ℕ → ℕ → Outcome
+unfoldable pub added : List ConfidentialVmMmioRegion → ℕ → ℕ → ℕ → RunChange
 added records count base size =
     checked (refused records count) records count base size
     (record {
@@ -82,7 +82,7 @@ added records count base size =
     })
 
 -- remove: 12, 11
-unfoldable pub removed : List ConfidentialVmMmioRegion → ℕ → ℕ → ℕ → Outcome
+unfoldable pub removed : List ConfidentialVmMmioRegion → ℕ → ℕ → ℕ → RunChange
 removed records count base size =
     checked (refused records count) records count base size
     (record { number = done; after = without (regionFrom base size) records count })

@@ -7,7 +7,7 @@ ghost use mathlib.Core.Path.{_≡_};
 ghost use Prim.Native.Nat.{_≤_};
 ghost use lib.ListN.{length, take, drop};
 ghost use Rattle.mmio_region_survey.specs.Survey.{unseen, seenThrough, joinedThrough, surveyed};
-ghost use Rattle.lent_mmio_regions.specs.Run.{run, without, outcome, added, removed, defined};
+ghost use Rattle.lent_mmio_regions.specs.Run.{run, without, runChange, added, removed, defined};
 use confidential_vm_mmio_region::ConfidentialVmMmioRegion;
 use mmio_region_survey::Changed;
 use mmio_region_survey::Defined;
@@ -83,7 +83,7 @@ pub extern "C" fn lent_add_mmio_region(
     base: u64,
     size: u64,
 ) -> Changed
-    ensures { λ r. ⌜ outcome r (now (regions .exit)) ≡ added (now (regions .entry)) count base size ⌝ }
+    ensures { λ r. ⌜ runChange r (now (regions .exit)) ≡ added (now (regions .entry)) count base size ⌝ }
 {
     let query = mmio_region_survey::requested(base, size);
     let seen = survey_run(&*regions, count, query);
@@ -126,7 +126,7 @@ pub extern "C" fn lent_remove_mmio_region(
     base: u64,
     size: u64,
 ) -> Changed
-    ensures { λ r. ⌜ outcome r (now (regions .exit)) ≡ removed (now (regions .entry)) count base size ⌝ }
+    ensures { λ r. ⌜ runChange r (now (regions .exit)) ≡ removed (now (regions .entry)) count base size ⌝ }
 {
     let query = mmio_region_survey::requested(base, size);
     let seen = survey_run(&*regions, count, query);

@@ -12,7 +12,7 @@ use Rattle.table_rows.specs.Rows.{put}
 use Rattle.table_rows.specs.Choice.{pick}
 use Rattle.table_rows.proofs.PickLaws.{yes, no}
 use Rattle.mmio_regions.specs.Regions.{maxRegions, anyOverlaps, addNumber, withAdded}
-use Rattle.mmio_regions.specs.Table.{regionWords, standing, wordsOf, Sized, laid, table, outcome, added}
+use Rattle.mmio_regions.specs.Table.{regionWords, standing, wordsOf, Sized, laid, table, addition, added}
 use Rattle.confidential_vm_mmio_region.specs.declared.ConfidentialVmMmioRegion.{ConfidentialVmMmioRegion}
 use Rattle.mmio_regions.proofs.TableLaws.{words-append, standing-length, standing-words, laid-same}
 
@@ -21,7 +21,7 @@ module _ (xs : List ℕ) (count : ℕ) (q : ConfidentialVmMmioRegion) (sized : S
   rs = standing xs count
 
   -- a refusal leaves the table as it was
-  refused : (number : ℕ) → number ≡ addNumber q rs → eqb number done ≡ false → outcome (record { number = number; count = count }) xs ≡ added xs count q
+  refused : (number : ℕ) → number ≡ addNumber q rs → eqb number done ≡ false → addition (record { number = number; count = count }) xs ≡ added xs count q
   unfolding added withAdded
   refused number e other =
       let same : rs ≡ pick (eqb (addNumber q rs) done) (rs ++ (q ∷ [])) rs = no _ (ap (λ (n : ℕ). eqb n done) (sym e) ∙ other) refl in
@@ -32,7 +32,7 @@ module _ (xs : List ℕ) (count : ℕ) (q : ConfidentialVmMmioRegion) (sized : S
         after = ap₂ table length-same (sym (laid-same xs count (omega arith)) ∙ ap (laid xs count) same) i;
       }
 
-  pub add-full : maxRegions ≤ count → outcome (record { number = reachedMaxNumberOfMmioRegions; count = count }) xs ≡ added xs count q
+  pub add-full : maxRegions ≤ count → addition (record { number = reachedMaxNumberOfMmioRegions; count = count }) xs ≡ added xs count q
   unfolding addNumber
   add-full full =
       refused reachedMaxNumberOfMmioRegions
@@ -40,7 +40,7 @@ module _ (xs : List ℕ) (count : ℕ) (q : ConfidentialVmMmioRegion) (sized : S
       refl
 
   module _ (room : count < maxRegions) (overlapping : Bool) (e : overlapping ≡ anyOverlaps q rs) where
-    pub add-overlapping : overlapping ≡ true → outcome (record { number = overlappingMmioRegion; count = count }) xs ≡ added xs count q
+    pub add-overlapping : overlapping ≡ true → addition (record { number = overlappingMmioRegion; count = count }) xs ≡ added xs count q
     unfolding addNumber
     add-overlapping t =
         refused overlappingMmioRegion
@@ -65,7 +65,7 @@ module _ (xs : List ℕ) (count : ℕ) (q : ConfidentialVmMmioRegion) (sized : S
         (append-assoc (take (count * regionWords) xs) (wordsOf (q ∷ [])) (drop (count * regionWords + regionWords) xs)))
 
     pub add-done : overlapping ≡ false
-        → outcome (record { number = done; count = count + 1 }) (put regionWords xs count (wordsOf (q ∷ []))) ≡ added xs count q
+        → addition (record { number = done; count = count + 1 }) (put regionWords xs count (wordsOf (q ∷ []))) ≡ added xs count q
     unfolding added withAdded
     add-done f =
         let more : rs ++ (q ∷ []) ≡ pick (eqb (addNumber q rs) done) (rs ++ (q ∷ [])) rs =

@@ -74,16 +74,16 @@ abbrev pub relaid : List ℕ → ℕ → List ConfidentialVmMmioRegion → Table
 relaid words count rs = table (length rs) (laid words count rs)
 
 -- the number given, and the table then standing
-pub record Outcome : Type 0 where
+pub record Addition : Type 0 where
   pub number : ℕ
   pub after : Table
 
 -- what add answered, and the words it left
-abbrev pub outcome : Added → List ℕ → Outcome
-outcome r words = record { number = r .number; after = table (r .count) words }
+abbrev pub addition : Added → List ℕ → Addition
+addition r words = record { number = r .number; after = table (r .count) words }
 
 -- the region q added
-unfoldable pub added : List ℕ → ℕ → ConfidentialVmMmioRegion → Outcome
+unfoldable pub added : List ℕ → ℕ → ConfidentialVmMmioRegion → Addition
 added words count q = record {
   number = addNumber q (standing words count);
   after = relaid words count (withAdded q (standing words count));

@@ -20,7 +20,7 @@ ghost use Rattle.mmio_regions.specs.Table.{
   regionsSound,
   Sized,
   table,
-  outcome,
+  addition,
   added,
   removed,
 };
@@ -145,7 +145,7 @@ pub fn is_mmio_region_defined(regions: &[u64], count: u64, query: ConfidentialVm
 // its base no higher than its end, and leaves a sound table sound.
 pub fn add(regions: &mut [u64], count: u64, region: ConfidentialVmMmioRegion) -> Added
     requires { ⌜ Sized (now regions) count ⌝ }
-    ensures { λ r. ⌜ outcome r (now (regions .exit)) ≡ added (now (regions .entry)) count region ⌝ }
+    ensures { λ r. ⌜ addition r (now (regions .exit)) ≡ added (now (regions .entry)) count region ⌝ }
 {
     if MAX_NUMBER_OF_MMIO_REGIONS as u64 <= count {
         return Added {

@@ -1,2 +1,2 @@
 -- What belongs to no one function of `monitor_exports`.
-pub mod FlowExportLaws
+pub mod ReplyLaws

@@ -1,2 +1,2 @@
 -- The definitions that the contracts of `monitor_exports` cite.
-pub mod FlowExports
+pub mod Replies

@@ -5,22 +5,23 @@ ghost use mathlib.Core.Path.{_≡_};
 ghost use Prim.Native.Nat.{_≤_};
 ghost use lib.ListN.{length};
 ghost use Rattle.table_rows.specs.Choice.{pick};
-ghost use Rattle.monitor_requests.specs.declared.Request.the-variants.{Setup as RequestSetup, Steal, Return, Start, Status, Home, Send, Allow, Add, Remove, Defined, Suspend, Stop, Wake, Off, Await};
-ghost use Rattle.monitor_requests.specs.Tables.{tables, sound};
-ghost use Rattle.flow_requests.specs.declared.FlowRequest.the-variants.{Broadcast, Process, Resume};
-ghost use Rattle.export_values.specs.Exports.{hartId, hardwareHartId, setupOf, commandOf, written, exported, valued, numbered, unvalued};
-ghost use Rattle.monitor_exports.specs.FlowExports.{flowValueWords, flowTold, flowExported, flowValued};
+ghost use Rattle.monitor_requests.specs.declared.Request.the-variants.{Steal, Return, Start, Status, Home, Send, Allow, Add, Remove, Defined, Suspend, Stop, Wake, Off, Await, Broadcast, Process, Resume};
+ghost use Rattle.monitor_requests.specs.Tables.{sound};
+ghost use Rattle.monitor_requests.specs.LentTables.{before, after};
+ghost use Rattle.monitor_requests.specs.FromNumbers.{hartId, hardwareHartId, setupOf, commandOf};
+ghost use Rattle.export_values.specs.Exports.{written, exported, valued, numbered, unvalued, unvaluedSetup};
+ghost use Rattle.monitor_exports.specs.Replies.{replyValueWords, replyTold, replyExported, replyValued};
 use confidential_hart::ConfidentialHartId;
 use confidential_hart::HardwareHartId;
 use confidential_hart_remote_command::ConfidentialHartRemoteCommand;
-use flow_requests::FlowAnswer;
+use monitor_requests::Reply;
 use monitor_requests::Setup;
 
 // How many words are asked for an answer's values: an operation has the most.
 const VALUE_WORDS: usize = 4;
 
 // How many words are asked for how many effect records were written and an answer's values.
-const FLOW_VALUE_WORDS: usize = 5;
+const REPLY_VALUE_WORDS: usize = 5;
 
 // Whether the tables are sound, as 1 or 0.
 #[no_mangle]
@@ -31,7 +32,7 @@ pub extern "C" fn oudrameng_are_tables_sound(
     queues: &[u64],
     regions: &[u64],
 ) -> u64
-    ensures { λ r. ⌜ r ≡ pick (sound (tables (now (head .entry)) (now (home .entry)) (now (hardware .entry)) (now (queues .entry)) (now (regions .entry)))) 1 0 ⌝ }
+    ensures { λ r. ⌜ r ≡ pick (sound (before head home hardware queues regions)) 1 0 ⌝ }
 {
     export_values::word_of(sound_tables::are_tables_sound(head, home, hardware, queues, regions))
 }
@@ -52,7 +53,8 @@ pub extern "C" fn oudrameng_new(
     queues: &mut [u64],
     regions: &mut [u64],
 ) -> u64
-    ensures { λ r. ⌜ numbered r (tables (now (head .exit)) (now (home .exit)) (now (hardware .exit)) (now (queues .exit)) (now (regions .exit))) ≡ unvalued (RequestSetup (setupOf n m boot a1 mepc vsatp vsstatus)) (tables (now (head .entry)) (now (home .entry)) (now (hardware .entry)) (now (queues .entry)) (now (regions .entry))) ⌝ }
+    ensures { λ r. ⌜ numbered r (after head home hardware queues regions)
+        ≡ unvaluedSetup (setupOf n m boot a1 mepc vsatp vsstatus) (before head home hardware queues regions) ⌝ }
 {
     let setup = Setup {
         harts: n,
@@ -78,7 +80,8 @@ pub extern "C" fn oudrameng_steal_confidential_hart(
     regions: &[u64],
     value: &mut [u64],
 ) -> u64
-    ensures { λ r. ⌜ exported r (now (value .exit)) (tables (now (head .entry)) (now (home .exit)) (now (hardware .exit)) (now (queues .entry)) (now (regions .entry))) ≡ valued (Steal (hartId hart) (hardwareHartId on)) (now (value .entry)) (tables (now (head .entry)) (now (home .entry)) (now (hardware .entry)) (now (queues .entry)) (now (regions .entry))) ⌝ }
+    ensures { λ r. ⌜ exported r (now (value .exit)) (after head home hardware queues regions)
+        ≡ valued (Steal (hartId hart) (hardwareHartId on)) (now (value .entry)) (before head home hardware queues regions) ⌝ }
 {
     if value.len() < VALUE_WORDS {
         return error::ROOM_TOO_SHORT;
@@ -105,7 +108,8 @@ pub extern "C" fn oudrameng_return_confidential_hart(
     queues: &[u64],
     regions: &[u64],
 ) -> u64
-    ensures { λ r. ⌜ numbered r (tables (now (head .entry)) (now (home .exit)) (now (hardware .exit)) (now (queues .entry)) (now (regions .entry))) ≡ unvalued (Return (hardwareHartId on)) (tables (now (head .entry)) (now (home .entry)) (now (hardware .entry)) (now (queues .entry)) (now (regions .entry))) ⌝ }
+    ensures { λ r. ⌜ numbered r (after head home hardware queues regions)
+        ≡ unvalued (Return (hardwareHartId on)) (before head home hardware queues regions) ⌝ }
 {
     confidential_vm::return_confidential_hart(
         HardwareHartId(on),
@@ -127,7 +131,8 @@ pub extern "C" fn oudrameng_allow_external_interrupt(
     queues: &[u64],
     regions: &[u64],
 ) -> u64
-    ensures { λ r. ⌜ numbered r (tables (now (head .exit)) (now (home .entry)) (now (hardware .entry)) (now (queues .entry)) (now (regions .entry))) ≡ unvalued (Allow bits) (tables (now (head .entry)) (now (home .entry)) (now (hardware .entry)) (now (queues .entry)) (now (regions .entry))) ⌝ }
+    ensures { λ r. ⌜ numbered r (after head home hardware queues regions)
+        ≡ unvalued (Allow bits) (before head home hardware queues regions) ⌝ }
 {
     confidential_vm::allow_external_interrupt(bits, head, home, hardware, queues, regions).number()
 }
@@ -144,7 +149,8 @@ pub extern "C" fn oudrameng_start_confidential_hart(
     queues: &[u64],
     regions: &[u64],
 ) -> u64
-    ensures { λ r. ⌜ numbered r (tables (now (head .entry)) (now (home .exit)) (now (hardware .entry)) (now (queues .entry)) (now (regions .entry))) ≡ unvalued (Start (hartId hart) address opaque) (tables (now (head .entry)) (now (home .entry)) (now (hardware .entry)) (now (queues .entry)) (now (regions .entry))) ⌝ }
+    ensures { λ r. ⌜ numbered r (after head home hardware queues regions)
+        ≡ unvalued (Start (hartId hart) address opaque) (before head home hardware queues regions) ⌝ }
 {
     confidential_vm_lifecycle::start_confidential_hart(
         ConfidentialHartId(hart),
@@ -169,7 +175,8 @@ pub extern "C" fn oudrameng_confidential_hart_lifecycle_state(
     regions: &[u64],
     value: &mut [u64],
 ) -> u64
-    ensures { λ r. ⌜ exported r (now (value .exit)) (tables (now (head .entry)) (now (home .entry)) (now (hardware .entry)) (now (queues .entry)) (now (regions .entry))) ≡ valued (Status (hartId hart)) (now (value .entry)) (tables (now (head .entry)) (now (home .entry)) (now (hardware .entry)) (now (queues .entry)) (now (regions .entry))) ⌝ }
+    ensures { λ r. ⌜ exported r (now (value .exit)) (after head home hardware queues regions)
+        ≡ valued (Status (hartId hart)) (now (value .entry)) (before head home hardware queues regions) ⌝ }
 {
     if value.len() < VALUE_WORDS {
         return error::ROOM_TOO_SHORT;
@@ -195,7 +202,8 @@ pub extern "C" fn oudrameng_is_vm_executing(
     regions: &[u64],
     value: &mut [u64],
 ) -> u64
-    ensures { λ r. ⌜ exported r (now (value .exit)) (tables (now (head .entry)) (now (home .entry)) (now (hardware .entry)) (now (queues .entry)) (now (regions .entry))) ≡ valued Home (now (value .entry)) (tables (now (head .entry)) (now (home .entry)) (now (hardware .entry)) (now (queues .entry)) (now (regions .entry))) ⌝ }
+    ensures { λ r. ⌜ exported r (now (value .exit)) (after head home hardware queues regions)
+        ≡ valued Home (now (value .entry)) (before head home hardware queues regions) ⌝ }
 {
     if value.len() < VALUE_WORDS {
         return error::ROOM_TOO_SHORT;
@@ -221,7 +229,8 @@ pub extern "C" fn oudrameng_broadcast_remote_command(
     regions: &[u64],
     value: &mut [u64],
 ) -> u64
-    ensures { λ r. ⌜ exported r (now (value .exit)) (tables (now (head .entry)) (now (home .entry)) (now (hardware .entry)) (now (queues .exit)) (now (regions .entry))) ≡ valued (Send sender (commandOf kind mask base start size tag)) (now (value .entry)) (tables (now (head .entry)) (now (home .entry)) (now (hardware .entry)) (now (queues .entry)) (now (regions .entry))) ⌝ }
+    ensures { λ r. ⌜ exported r (now (value .exit)) (after head home hardware queues regions)
+        ≡ valued (Send sender (commandOf kind mask base start size tag)) (now (value .entry)) (before head home hardware queues regions) ⌝ }
 {
     if value.len() < VALUE_WORDS {
         return error::ROOM_TOO_SHORT;
@@ -257,7 +266,8 @@ pub extern "C" fn oudrameng_add_mmio_region(
     queues: &[u64],
     regions: &mut [u64],
 ) -> u64
-    ensures { λ r. ⌜ numbered r (tables (now (head .exit)) (now (home .entry)) (now (hardware .entry)) (now (queues .entry)) (now (regions .exit))) ≡ unvalued (Add base size) (tables (now (head .entry)) (now (home .entry)) (now (hardware .entry)) (now (queues .entry)) (now (regions .entry))) ⌝ }
+    ensures { λ r. ⌜ numbered r (after head home hardware queues regions)
+        ≡ unvalued (Add base size) (before head home hardware queues regions) ⌝ }
 {
     confidential_vm_mmio_regions::add_mmio_region(
         base,
@@ -281,7 +291,8 @@ pub extern "C" fn oudrameng_remove_mmio_region(
     queues: &[u64],
     regions: &mut [u64],
 ) -> u64
-    ensures { λ r. ⌜ numbered r (tables (now (head .exit)) (now (home .entry)) (now (hardware .entry)) (now (queues .entry)) (now (regions .exit))) ≡ unvalued (Remove base size) (tables (now (head .entry)) (now (home .entry)) (now (hardware .entry)) (now (queues .entry)) (now (regions .entry))) ⌝ }
+    ensures { λ r. ⌜ numbered r (after head home hardware queues regions)
+        ≡ unvalued (Remove base size) (before head home hardware queues regions) ⌝ }
 {
     confidential_vm_mmio_regions::remove_mmio_region(
         base,
@@ -306,7 +317,8 @@ pub extern "C" fn oudrameng_is_mmio_region_defined(
     regions: &[u64],
     value: &mut [u64],
 ) -> u64
-    ensures { λ r. ⌜ exported r (now (value .exit)) (tables (now (head .entry)) (now (home .entry)) (now (hardware .entry)) (now (queues .entry)) (now (regions .entry))) ≡ valued (Defined base size) (now (value .entry)) (tables (now (head .entry)) (now (home .entry)) (now (hardware .entry)) (now (queues .entry)) (now (regions .entry))) ⌝ }
+    ensures { λ r. ⌜ exported r (now (value .exit)) (after head home hardware queues regions)
+        ≡ valued (Defined base size) (now (value .entry)) (before head home hardware queues regions) ⌝ }
 {
     if value.len() < VALUE_WORDS {
         return error::ROOM_TOO_SHORT;
@@ -324,9 +336,9 @@ pub extern "C" fn oudrameng_is_mmio_region_defined(
 }
 
 // Writes how many effect records were written and the values of the answer, and gives its number.
-fn tell_flow(given: FlowAnswer, value: &mut [u64]) -> u64
-    requires { ⌜ flowValueWords ≤ length (now value) ⌝ }
-    ensures { λ r. ⌜ written r (now (value .exit)) ≡ flowTold given (now (value .entry)) ⌝ }
+fn tell_reply(given: Reply, value: &mut [u64]) -> u64
+    requires { ⌜ replyValueWords ≤ length (now value) ⌝ }
+    ensures { λ r. ⌜ written r (now (value .exit)) ≡ replyTold given (now (value .entry)) ⌝ }
 {
     let answer = given.answer;
     let number = export_values::tell(answer, &mut value[1..]);
@@ -344,7 +356,8 @@ pub extern "C" fn oudrameng_suspend_confidential_hart(
     queues: &[u64],
     regions: &[u64],
 ) -> u64
-    ensures { λ r. ⌜ numbered r (tables (now (head .entry)) (now (home .entry)) (now (hardware .exit)) (now (queues .entry)) (now (regions .entry))) ≡ unvalued (Suspend (hardwareHartId on)) (tables (now (head .entry)) (now (home .entry)) (now (hardware .entry)) (now (queues .entry)) (now (regions .entry))) ⌝ }
+    ensures { λ r. ⌜ numbered r (after head home hardware queues regions)
+        ≡ unvalued (Suspend (hardwareHartId on)) (before head home hardware queues regions) ⌝ }
 {
     confidential_flow_lifecycle::suspend_confidential_hart(
         HardwareHartId(on),
@@ -366,7 +379,8 @@ pub extern "C" fn oudrameng_stop_confidential_hart(
     queues: &[u64],
     regions: &[u64],
 ) -> u64
-    ensures { λ r. ⌜ numbered r (tables (now (head .entry)) (now (home .entry)) (now (hardware .exit)) (now (queues .entry)) (now (regions .entry))) ≡ unvalued (Stop (hardwareHartId on)) (tables (now (head .entry)) (now (home .entry)) (now (hardware .entry)) (now (queues .entry)) (now (regions .entry))) ⌝ }
+    ensures { λ r. ⌜ numbered r (after head home hardware queues regions)
+        ≡ unvalued (Stop (hardwareHartId on)) (before head home hardware queues regions) ⌝ }
 {
     confidential_flow_lifecycle::stop_confidential_hart(
         HardwareHartId(on),
@@ -390,7 +404,8 @@ pub extern "C" fn oudrameng_resume_confidential_hart(
     queues: &[u64],
     regions: &[u64],
 ) -> u64
-    ensures { λ r. ⌜ numbered r (tables (now (head .entry)) (now (home .entry)) (now (hardware .exit)) (now (queues .entry)) (now (regions .entry))) ≡ unvalued (Wake (hardwareHartId on) address opaque) (tables (now (head .entry)) (now (home .entry)) (now (hardware .entry)) (now (queues .entry)) (now (regions .entry))) ⌝ }
+    ensures { λ r. ⌜ numbered r (after head home hardware queues regions)
+        ≡ unvalued (Wake (hardwareHartId on) address opaque) (before head home hardware queues regions) ⌝ }
 {
     confidential_flow_lifecycle::resume_confidential_hart(
         HardwareHartId(on),
@@ -414,7 +429,8 @@ pub extern "C" fn oudrameng_shutdown_confidential_hart(
     queues: &[u64],
     regions: &[u64],
 ) -> u64
-    ensures { λ r. ⌜ numbered r (tables (now (head .entry)) (now (home .entry)) (now (hardware .exit)) (now (queues .entry)) (now (regions .entry))) ≡ unvalued (Off (hardwareHartId on)) (tables (now (head .entry)) (now (home .entry)) (now (hardware .entry)) (now (queues .entry)) (now (regions .entry))) ⌝ }
+    ensures { λ r. ⌜ numbered r (after head home hardware queues regions)
+        ≡ unvalued (Off (hardwareHartId on)) (before head home hardware queues regions) ⌝ }
 {
     confidential_flow_lifecycle::shutdown_confidential_hart(
         HardwareHartId(on),
@@ -439,7 +455,8 @@ pub extern "C" fn oudrameng_set_resumable_operation(
     queues: &[u64],
     regions: &[u64],
 ) -> u64
-    ensures { λ r. ⌜ numbered r (tables (now (head .entry)) (now (home .entry)) (now (hardware .exit)) (now (queues .entry)) (now (regions .entry))) ≡ unvalued (Await (hardwareHartId on) kind x y) (tables (now (head .entry)) (now (home .entry)) (now (hardware .entry)) (now (queues .entry)) (now (regions .entry))) ⌝ }
+    ensures { λ r. ⌜ numbered r (after head home hardware queues regions)
+        ≡ unvalued (Await (hardwareHartId on) kind x y) (before head home hardware queues regions) ⌝ }
 {
     confidential_flow::set_resumable_operation(
         HardwareHartId(on),
@@ -472,9 +489,11 @@ pub extern "C" fn oudrameng_flow_broadcast_remote_command(
     effects: &mut [u64],
     value: &mut [u64],
 ) -> u64
-    ensures { λ r. ⌜ flowExported r (now (value .exit)) (tables (now (head .entry)) (now (home .entry)) (now (hardware .exit)) (now (queues .exit)) (now (regions .entry))) (now (effects .exit)) ≡ flowValued (Broadcast (hardwareHartId on) (commandOf kind mask base start size tag)) (now (value .entry)) (tables (now (head .entry)) (now (home .entry)) (now (hardware .entry)) (now (queues .entry)) (now (regions .entry))) (now (effects .entry)) ⌝ }
+    ensures { λ r. ⌜ replyExported r (now (value .exit)) (after head home hardware queues regions) (now (effects .exit))
+        ≡ replyValued (Broadcast (hardwareHartId on) (commandOf kind mask base start size tag))
+        (now (value .entry)) (before head home hardware queues regions) (now (effects .entry)) ⌝ }
 {
-    if value.len() < FLOW_VALUE_WORDS {
+    if value.len() < REPLY_VALUE_WORDS {
         return error::ROOM_TOO_SHORT;
     }
     let c = ConfidentialHartRemoteCommand {
@@ -495,7 +514,7 @@ pub extern "C" fn oudrameng_flow_broadcast_remote_command(
         regions,
         effects,
     );
-    tell_flow(given, value)
+    tell_reply(given, value)
 }
 
 // The hart that a hardware hart holds does the commands of its queue. The value is how many there were.
@@ -510,9 +529,10 @@ pub extern "C" fn oudrameng_process_confidential_hart_remote_commands(
     effects: &mut [u64],
     value: &mut [u64],
 ) -> u64
-    ensures { λ r. ⌜ flowExported r (now (value .exit)) (tables (now (head .entry)) (now (home .entry)) (now (hardware .exit)) (now (queues .exit)) (now (regions .entry))) (now (effects .exit)) ≡ flowValued (Process (hardwareHartId on)) (now (value .entry)) (tables (now (head .entry)) (now (home .entry)) (now (hardware .entry)) (now (queues .entry)) (now (regions .entry))) (now (effects .entry)) ⌝ }
+    ensures { λ r. ⌜ replyExported r (now (value .exit)) (after head home hardware queues regions) (now (effects .exit))
+        ≡ replyValued (Process (hardwareHartId on)) (now (value .entry)) (before head home hardware queues regions) (now (effects .entry)) ⌝ }
 {
-    if value.len() < FLOW_VALUE_WORDS {
+    if value.len() < REPLY_VALUE_WORDS {
         return error::ROOM_TOO_SHORT;
     }
     let given = confidential_flow_remote_commands::process_confidential_hart_remote_commands(
@@ -524,7 +544,7 @@ pub extern "C" fn oudrameng_process_confidential_hart_remote_commands(
         regions,
         effects,
     );
-    tell_flow(given, value)
+    tell_reply(given, value)
 }
 
 // The hart that a hardware hart holds does the commands of its queue. The values say what it goes on with.
@@ -539,9 +559,10 @@ pub extern "C" fn oudrameng_resume_confidential_hart_execution(
     effects: &mut [u64],
     value: &mut [u64],
 ) -> u64
-    ensures { λ r. ⌜ flowExported r (now (value .exit)) (tables (now (head .entry)) (now (home .entry)) (now (hardware .exit)) (now (queues .exit)) (now (regions .entry))) (now (effects .exit)) ≡ flowValued (Resume (hardwareHartId on)) (now (value .entry)) (tables (now (head .entry)) (now (home .entry)) (now (hardware .entry)) (now (queues .entry)) (now (regions .entry))) (now (effects .entry)) ⌝ }
+    ensures { λ r. ⌜ replyExported r (now (value .exit)) (after head home hardware queues regions) (now (effects .exit))
+        ≡ replyValued (Resume (hardwareHartId on)) (now (value .entry)) (before head home hardware queues regions) (now (effects .entry)) ⌝ }
 {
-    if value.len() < FLOW_VALUE_WORDS {
+    if value.len() < REPLY_VALUE_WORDS {
         return error::ROOM_TOO_SHORT;
     }
     let given = confidential_flow::resume_confidential_hart_execution(
@@ -553,5 +574,5 @@ pub extern "C" fn oudrameng_resume_confidential_hart_execution(
         regions,
         effects,
     );
-    tell_flow(given, value)
+    tell_reply(given, value)
 }

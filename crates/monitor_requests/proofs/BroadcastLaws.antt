@@ -14,9 +14,9 @@ use Rattle.error.specs.declared.Error.the-variants.{TablesNotSound, UnknownKind
 use Rattle.bits.specs.Bit.{bit, setBit}
 use Rattle.bits.proofs.BitLaws.{set-same, set-other, set-lt, bit-above}
 use Rattle.table_rows.specs.Rows.{row, put}
-use Rattle.table_rows.specs.Choice.{pick, some}
+use Rattle.table_rows.specs.Choice.{pick, exists}
 use Rattle.table_rows.proofs.PickLaws.{yes, no, by-pick, by-test, and-left, and-right, and-both, not-yes, not-no}
-use Rattle.table_rows.proofs.SomeLaws.{some-is, some-of, none-of, some-at, some-none}
+use Rattle.table_rows.proofs.ExistsLaws.{exists-is, exists-of, none-of, exists-at, exists-none}
 use Rattle.table_rows.proofs.RowLaws.{row-length, put-length, row-put-same, row-put-other, put-elsewhere}
 use Rattle.confidential_hart_remote_command.specs.declared.ConfidentialHartRemoteCommand.{ConfidentialHartRemoteCommand}
 use Rattle.confidential_hart_remote_command.specs.Command.{wellFormed}
@@ -26,36 +26,36 @@ use Rattle.remote_commands.proofs.OfferLaws.{offer-length, offer-well-formed}
 use Rattle.confidential_hart.specs.Hart.{isDummy}
 use Rattle.confidential_hart.proofs.HartLaws.{formed-facts}
 use Rattle.hart_lifecycle_state.specs.Lifecycle.{started}
-use Rattle.hart_rows.specs.Rows.{hartAt}
+use Rattle.hart_rows.specs.HartRows.{hartAt}
 use Rattle.monitor_requests.specs.declared.Request.the-variants.{Send}
 use Rattle.monitor_requests.specs.declared.Answer.{Answer}
 use Rattle.monitor_requests.specs.declared.Answer.the-variants.{Refused, Mask}
 use Rattle.monitor_requests.specs.Answers.{given}
 use Rattle.monitor_requests.specs.Tables.{Tables, harts, homeHart, queue, maxHardwareHarts, sound}
-use Rattle.monitor_requests.specs.Requests.{Outcome, outcome, tests, withQueues, receives, interrupting, Delivery, delivery, deliver, broadcast, effect, performed}
-use Rattle.monitor_requests.proofs.AnswerLaws.{isMask, maskIn}
+use Rattle.monitor_requests.specs.Requests.{Outcome, answering, refusedOn, sends, tests, withQueues, receives, interrupting, Delivery, delivery, deliver, broadcast, effect, performed}
+use Rattle.monitor_requests.proofs.AnswerLaws.{isMask, firstIn}
 use Rattle.monitor_requests.proofs.JudgedLaws.{unsound-refused}
 use Rattle.monitor_requests.proofs.SoundLaws.{sound-facts, queues-sound, home-formed, away-names}
 
 -- ---- the request on sound tables, by its two ways
 
-module _ (sender : ℕ) (c : ConfidentialHartRemoteCommand) (t : Tables) where
+module _ (sender : ℕ) (c : ConfidentialHartRemoteCommand) (t : Tables) (effects : List ℕ) where
   module _ (s : sound t ≡ true) where
     -- on sound tables a command that is not well formed gives 19, and nothing changes
-    pub send-unknown : wellFormed c ≡ false → performed (Send sender c) t ≡ outcome (Refused UnknownKind) t
+    pub send-unknown : wellFormed c ≡ false → performed (Send sender c) t effects ≡ refusedOn t effects UnknownKind
     unfolding performed tests
     send-unknown w = sym (no _ (not-no _ s) (yes _ (not-yes _ w) refl))
 
     -- and a well-formed one gives what the broadcast gives
     pub send-known : wellFormed c ≡ true
-        → performed (Send sender c) t ≡ outcome (broadcast sender c t .answer) (withQueues (broadcast sender c t .queues) t)
+        → performed (Send sender c) t effects ≡ sends sender c t effects
     unfolding performed tests effect
     send-known w = sym (no _ (not-no _ s) (no _ (not-no _ w) refl))
 
     -- the same, for an answer and queues that are the broadcast's
     pub send-is : wellFormed c ≡ true → (r : Answer) (queues : List ℕ) → delivery r queues ≡ broadcast sender c t
-        → outcome r (withQueues queues t) ≡ performed (Send sender c) t
-    send-is w r queues e = ap (λ (d : Delivery). outcome (d .answer) (withQueues (d .queues) t)) e ∙ sym (send-known w)
+        → answering r (withQueues queues t) effects ≡ performed (Send sender c) t effects
+    send-is w r queues e = ap (λ (d : Delivery). answering (d .answer) (withQueues (d .queues) t) effects) e ∙ sym (send-known w)
 
 -- ---- a dummy in a home row
 
@@ -374,13 +374,13 @@ module _ (home : List ℕ) (sender : ℕ) (c : ConfidentialHartRemoteCommand) wh
       bit-none k left (h + 1) _ (turn-bit k h mask ∙ rw (e, none h (omega arith) (omega arith))) (λ j a b. none j (omega arith) (omega arith))
 
   -- bit k is 1 exactly when some hart that receives has its home row hold dummy k
-  pub interrupted-bits : (k n : ℕ) → eqb (bit k (interrupted n 0 0)) 1 ≡ some (interruptsOn k) n
+  pub interrupted-bits : (k n : ℕ) → eqb (bit k (interrupted n 0 0)) 1 ≡ exists (interruptsOn k) n
   interrupted-bits k n =
-      by-test (some (interruptsOn k) n)
-      (λ e. let w = some-at (interruptsOn k) n e in bit-added k n 0 0 (w .0) (omega arith) (omega (arith, w .1)) (w .2) ∙ sym e)
+      by-test (exists (interruptsOn k) n)
+      (λ e. let w = exists-at (interruptsOn k) n e in bit-added k n 0 0 (w .0) (omega arith) (omega (arith, w .1)) (w .2) ∙ sym e)
       (λ e.
       bit-none k n 0 0 (ap (λ (b : ℕ). eqb b 1) (bit-above 0 k 0 (omega arith) (omega arith)))
-      (λ j a b. some-none (interruptsOn k) j n (omega arith) e)
+      (λ j a b. exists-none (interruptsOn k) j n (omega arith) e)
       ∙ sym e)
 
   -- there is no bit from xlen on, where each dummy has a number below it
@@ -400,7 +400,7 @@ module _ (home : List ℕ) (sender : ℕ) (c : ConfidentialHartRemoteCommand) wh
 told-mask : (b : Bool) (e : Error) (m mask : ℕ) → pick b (Refused e) (Mask m) ≡ Mask mask → (b ≡ false) × (m ≡ mask)
 unfolding pick
 told-mask true e m mask p = absurd (false≢true (ap isMask p))
-told-mask false e m mask p = (refl, ap maskIn p)
+told-mask false e m mask p = (refl, ap firstIn p)
 
 told-refused : (b : Bool) (e f : Error) (m : ℕ) → pick b (Refused e) (Mask m) ≡ Refused f → (b ≡ true) × (Refused e ≡ Refused f)
 unfolding pick
@@ -489,9 +489,9 @@ module _ (sender : ℕ) (c : ConfidentialHartRemoteCommand) (t : Tables) where
         (zero-add (harts t))
 
     -- there is one exactly when some hart that receives has 64 already
-    pub refuses-exactly : some (refusesAt (t .home) sender c (t .queues)) (harts t) ≡ ltb refuser (harts t)
+    pub refuses-exactly : exists (refusesAt (t .home) sender c (t .queues)) (harts t) ≡ ltb refuser (harts t)
     refuses-exactly =
-        some-is (refusesAt (t .home) sender c (t .queues)) (harts t) (ltb refuser (harts t)) refuser
+        exists-is (refusesAt (t .home) sender c (t .queues)) (harts t) (ltb refuser (harts t)) refuser
         (λ b. let l = ltb-true _ _ b in (l, refusing-does (t .home) sender c (harts t) 0 (t .queues) (omega arith)))
         (λ j l e.
         by-test (ltb refuser (harts t)) (λ b. b)
@@ -523,7 +523,7 @@ module _ (sender : ℕ) (c : ConfidentialHartRemoteCommand) (t : Tables) where
       mask-none = le-antisymm refuser-bound (ltb-false _ _ (found .0))
 
       -- bit k is 1 exactly when the home row of some hart that receives holds dummy k
-      pub mask-bits : (k : ℕ) → eqb (bit k mask) 1 ≡ some (interruptsOn (t .home) sender c k) (harts t)
+      pub mask-bits : (k : ℕ) → eqb (bit k mask) 1 ≡ exists (interruptsOn (t .home) sender c k) (harts t)
       mask-bits k = rw (← (found .1)) (interrupted-bits (t .home) sender c k (harts t))
 
       -- the mask is a word
@@ -568,9 +568,9 @@ module _ (sender : ℕ) (c : ConfidentialHartRemoteCommand) (t : Tables) where
         (λ d. f .queue-formed h l)))
 
 -- sound tables stay sound
-pub send-sound : (sender : ℕ) (c : ConfidentialHartRemoteCommand) (t : Tables) → sound t ≡ true → sound (performed (Send sender c) t .after) ≡ true
-send-sound sender c t s =
-    by-test (wellFormed c) (λ w. rw (send-known sender c t s w) (broadcast-sound sender c t s w)) (λ w. rw (send-unknown sender c t s w) s)
+pub send-sound : (sender : ℕ) (c : ConfidentialHartRemoteCommand) (t : Tables) (effects : List ℕ) → sound t ≡ true → sound (performed (Send sender c) t effects .after) ≡ true
+send-sound sender c t effects s =
+    by-test (wellFormed c) (λ w. rw (send-known sender c t effects s w) (broadcast-sound sender c t s w)) (λ w. rw (send-unknown sender c t effects s w) s)
 
 -- ---- what an answer of the request tells
 
@@ -580,43 +580,43 @@ pub record Masked (sender : ℕ) (c : ConfidentialHartRemoteCommand) (t : Tables
   pub tables-sound : sound t ≡ true
   pub command-formed : wellFormed c ≡ true
   pub room : (j : ℕ) → j < harts t → receives (t .home) sender c j ≡ true → count (queue t j) < maxCommands
-  pub bits : (k : ℕ) → eqb (bit k mask) 1 ≡ some (interruptsOn (t .home) sender c k) (harts t)
+  pub bits : (k : ℕ) → eqb (bit k mask) 1 ≡ exists (interruptsOn (t .home) sender c k) (harts t)
   pub small : mask < 2 ^ xlen
 
-module _ (sender : ℕ) (c : ConfidentialHartRemoteCommand) (t : Tables) where
+module _ (sender : ℕ) (c : ConfidentialHartRemoteCommand) (t : Tables) (effects : List ℕ) where
   -- an answer that is neither 12 nor 19 is the broadcast's, over sound tables and with a well-formed command
-  module _ (a : Answer) (p : performed (Send sender c) t .answer ≡ a) (not-12 : Refused TablesNotSound ≢ a) (not-19 : Refused UnknownKind ≢ a) where
+  module _ (a : Answer) (p : performed (Send sender c) t effects .answer ≡ a) (not-12 : Refused TablesNotSound ≢ a) (not-19 : Refused UnknownKind ≢ a) where
     went-sound : sound t ≡ true
     went-sound =
         by-test (sound t) (λ s. s)
-        (λ s. absurd (not-12 (sym (ap (λ (o : Outcome). o .answer) (unsound-refused (Send sender c) t refl s)) ∙ p)))
+        (λ s. absurd (not-12 (sym (ap (λ (o : Outcome). o .answer) (unsound-refused (Send sender c) t effects s)) ∙ p)))
 
     went-formed : wellFormed c ≡ true
     went-formed =
         by-test (wellFormed c) (λ w. w)
-        (λ w. absurd (not-19 (sym (ap (λ (o : Outcome). o .answer) (send-unknown sender c t went-sound w)) ∙ p)))
+        (λ w. absurd (not-19 (sym (ap (λ (o : Outcome). o .answer) (send-unknown sender c t effects went-sound w)) ∙ p)))
 
-    went : performed (Send sender c) t ≡ outcome (broadcast sender c t .answer) (withQueues (broadcast sender c t .queues) t)
-    went = send-known sender c t went-sound went-formed
+    went : performed (Send sender c) t effects ≡ sends sender c t effects
+    went = send-known sender c t effects went-sound went-formed
 
     went-answer : broadcast sender c t .answer ≡ a
     went-answer = sym (ap (λ (o : Outcome). o .answer) went) ∙ p
 
-    went-queues : performed (Send sender c) t .after .queues ≡ broadcast sender c t .queues
+    went-queues : performed (Send sender c) t effects .after .queues ≡ broadcast sender c t .queues
     went-queues = ap (λ (o : Outcome). o .after .queues) went
 
-  module _ (mask : ℕ) (p : performed (Send sender c) t .answer ≡ Mask mask) where
+  module _ (mask : ℕ) (p : performed (Send sender c) t effects .answer ≡ Mask mask) where
     no-mask : (e : Error) → Refused e ≢ Mask mask
     no-mask e q = false≢true (ap isMask q)
 
     s : sound t ≡ true
     s = went-sound (Mask mask) p (no-mask TablesNotSound) (no-mask UnknownKind)
 
-    answered : broadcast sender c t .answer ≡ Mask mask
-    answered = went-answer (Mask mask) p (no-mask TablesNotSound) (no-mask UnknownKind)
+    replied : broadcast sender c t .answer ≡ Mask mask
+    replied = went-answer (Mask mask) p (no-mask TablesNotSound) (no-mask UnknownKind)
 
     all-below : (j : ℕ) → j < harts t → j < refuser sender c t
-    all-below j l = rw (mask-none sender c t s mask answered) l
+    all-below j l = rw (mask-none sender c t s mask replied) l
 
     -- the request gives a mask
     pub send-mask : Masked sender c t mask
@@ -625,13 +625,13 @@ module _ (sender : ℕ) (c : ConfidentialHartRemoteCommand) (t : Tables) where
           tables-sound = s;
           command-formed = went-formed (Mask mask) p (no-mask TablesNotSound) (no-mask UnknownKind);
           room = λ j l r. below-room sender c t j (all-below j l) r;
-          bits = mask-bits sender c t s mask answered;
-          small = mask-small sender c t s mask answered;
+          bits = mask-bits sender c t s mask replied;
+          small = mask-small sender c t s mask replied;
         }
 
     -- and then each hart that receives has the command offered, and the queue of every other is as it was
     pub send-queues : (j : ℕ) → j < harts t
-        → queue (performed (Send sender c) t .after) j ≡ pick (receives (t .home) sender c j) (offered (queue t j) c .queue) (queue t j)
+        → queue (performed (Send sender c) t effects .after) j ≡ pick (receives (t .home) sender c j) (offered (queue t j) c .queue) (queue t j)
     send-queues j l =
         rw (went-queues (Mask mask) p (no-mask TablesNotSound) (no-mask UnknownKind))
         (by-test (receives (t .home) sender c j)
@@ -639,8 +639,8 @@ module _ (sender : ℕ) (c : ConfidentialHartRemoteCommand) (t : Tables) where
         (λ r. no _ r (passed-row sender c t s j l r)))
 
   -- the request gives 8: the hart that refuses is the first that receives and has 64 already
-  pub send-eight : performed (Send sender c) t .answer ≡ Refused ReachedMaxNumberOfRemoteCommands
-      → RefusedAt sender c t (performed (Send sender c) t .after .queues) (refuser sender c t)
+  pub send-eight : performed (Send sender c) t effects .answer ≡ Refused ReachedMaxNumberOfRemoteCommands
+      → RefusedAt sender c t (performed (Send sender c) t effects .after .queues) (refuser sender c t)
   send-eight p =
       let eight : Answer = Refused ReachedMaxNumberOfRemoteCommands in
       let not-12 : Refused TablesNotSound ≢ eight = λ q.
@@ -654,13 +654,13 @@ module _ (sender : ℕ) (c : ConfidentialHartRemoteCommand) (t : Tables) where
 
 -- ---- the answer of a well-formed command over sound tables
 
-module _ (sender : ℕ) (c : ConfidentialHartRemoteCommand) (t : Tables) (s : sound t ≡ true) (w : wellFormed c ≡ true) where
-  answer-of : performed (Send sender c) t .answer ≡ broadcast sender c t .answer
-  answer-of = ap (λ (o : Outcome). o .answer) (send-known sender c t s w)
+module _ (sender : ℕ) (c : ConfidentialHartRemoteCommand) (t : Tables) (effects : List ℕ) (s : sound t ≡ true) (w : wellFormed c ≡ true) where
+  answer-of : performed (Send sender c) t effects .answer ≡ broadcast sender c t .answer
+  answer-of = ap (λ (o : Outcome). o .answer) (send-known sender c t effects s w)
 
   -- a mask where every hart that receives has room
   pub send-accepted : ((j : ℕ) → j < harts t → receives (t .home) sender c j ≡ true → count (queue t j) < maxCommands)
-      → performed (Send sender c) t .answer ≡ Mask (interrupted (t .home) sender c (harts t) 0 0)
+      → performed (Send sender c) t effects .answer ≡ Mask (interrupted (t .home) sender c (harts t) 0 0)
   send-accepted room =
       let none = none-of (refusesAt (t .home) sender c (t .queues)) (harts t) (λ j l.
       by-test (receives (t .home) sender c j)
@@ -670,7 +670,7 @@ module _ (sender : ℕ) (c : ConfidentialHartRemoteCommand) (t : Tables) (s : so
 
   -- 8 where some hart that receives has 64 already
   pub send-full : (h : ℕ) → h < harts t → receives (t .home) sender c h ≡ true → maxCommands ≤ count (queue t h)
-      → performed (Send sender c) t .answer ≡ Refused ReachedMaxNumberOfRemoteCommands
+      → performed (Send sender c) t effects .answer ≡ Refused ReachedMaxNumberOfRemoteCommands
   send-full h l r full =
-      let one = some-of (refusesAt (t .home) sender c (t .queues)) h (harts t) l (full-refuses (t .home) sender c (t .queues) h r full) in
+      let one = exists-of (refusesAt (t .home) sender c (t .queues)) h (harts t) l (full-refuses (t .home) sender c (t .queues) h r full) in
       answer-of ∙ answer-is sender c t s ∙ sym (yes _ (sym (refuses-exactly sender c t s) ∙ one) refl)

@@ -53,7 +53,7 @@ pub record P8 (sender : ℕ) (c : ConfidentialHartRemoteCommand) (t : Tables) (h
 
 module _ (sender : ℕ) (c : ConfidentialHartRemoteCommand) (t : Tables) (h : ℕ) (p : P8 sender c t h) where
   abbrev after : Tables
-  after = performed (Send sender c) t .after
+  after = performed (Send sender c) t [] .after
 
   -- one less than 64 wait, and every other hart that receives has room
   module _ (one-less : count (queue t h) + 1 ≡ maxCommands)
@@ -61,16 +61,16 @@ module _ (sender : ℕ) (c : ConfidentialHartRemoteCommand) (t : Tables) (h : �
     room : count (queue t h) < maxCommands
     room = omega arith
 
-    masked : performed (Send sender c) t .answer ≡ Mask (interrupted (t .home) sender c (harts t) 0 0)
+    masked : performed (Send sender c) t [] .answer ≡ Mask (interrupted (t .home) sender c (harts t) 0 0)
     masked =
-        send-accepted sender c t (p .tables-sound) (p .command-formed) (λ j l r.
+        send-accepted sender c t [] (p .tables-sound) (p .command-formed) (λ j l r.
         by-test (eqb j h) (λ e. rw (eqb-true j h e) room) (λ e. others j l (eqb-false j h e) r))
 
     offers : queue after h ≡ offered (queue t h) c .queue
-    offers = send-queues sender c t _ masked h (p .there) ∙ sym (yes _ (p .receiving) refl)
+    offers = send-queues sender c t [] _ masked h (p .there) ∙ sym (yes _ (p .receiving) refl)
 
     -- the broadcast is done
-    pub p8-done : given (performed (Send sender c) t .answer) .number ≡ done
+    pub p8-done : given (performed (Send sender c) t [] .answer) .number ≡ done
     p8-done = ap (λ (a : Answer). given a .number) masked
 
     takes : queued (queue t h) c ≡ false → queue after h ≡ pushed (queue t h) c
@@ -92,13 +92,13 @@ module _ (sender : ℕ) (c : ConfidentialHartRemoteCommand) (t : Tables) (h : �
   -- 64 wait: 8, and the queue stays, whether or not the command waits there, and whatever the other queues hold
   module _ (full : count (queue t h) ≡ maxCommands) where
     -- it is 8
-    pub p8-full : performed (Send sender c) t .answer ≡ Refused ReachedMaxNumberOfRemoteCommands
-    p8-full = send-full sender c t (p .tables-sound) (p .command-formed) h (p .there) (p .receiving) (omega arith)
+    pub p8-full : performed (Send sender c) t [] .answer ≡ Refused ReachedMaxNumberOfRemoteCommands
+    p8-full = send-full sender c t [] (p .tables-sound) (p .command-formed) h (p .there) (p .receiving) (omega arith)
 
     -- the queue is as it was
     pub p8-full-stays : queue after h ≡ queue t h
     p8-full-stays =
-        let e = send-eight sender c t p8-full in
+        let e = send-eight sender c t [] p8-full in
         by-test (leb (refuser sender c t) h) (λ b. e .above h (p .there) (leb-true _ _ b))
         (λ b. absurd (omega (arith, e .room h (leb-false _ _ b) (p .receiving))))
 
@@ -159,14 +159,14 @@ module _ (t : Tables) (p : P9 t) where
       (and-both p9-two (le-leb maxCommands (count (queue t 2)) (omega (arith, p .full-2)))) p9-below
 
   -- it is 8
-  pub p9-answer : performed (Send 0 p9-command) t .answer ≡ Refused ReachedMaxNumberOfRemoteCommands
-  p9-answer = send-full 0 p9-command t (p .tables-sound) p9-formed 2 (omega (arith, p .four)) p9-two (omega (arith, p .full-2))
+  pub p9-answer : performed (Send 0 p9-command) t [] .answer ≡ Refused ReachedMaxNumberOfRemoteCommands
+  p9-answer = send-full 0 p9-command t [] (p .tables-sound) p9-formed 2 (omega (arith, p .four)) p9-two (omega (arith, p .full-2))
 
   abbrev p9-queue : ℕ → List ℕ
-  p9-queue h = queue (performed (Send 0 p9-command) t .after) h
+  p9-queue h = queue (performed (Send 0 p9-command) t [] .after) h
 
-  p9-eight : RefusedAt 0 p9-command t (performed (Send 0 p9-command) t .after .queues) (refuser 0 p9-command t)
-  p9-eight = send-eight 0 p9-command t p9-answer
+  p9-eight : RefusedAt 0 p9-command t (performed (Send 0 p9-command) t [] .after .queues) (refuser 0 p9-command t)
+  p9-eight = send-eight 0 p9-command t [] p9-answer
 
   -- hart 1 keeps the command
   pub p9-first : commands (p9-queue 1) ≡ commands (queue t 1) ++ (p9-command ∷ [])

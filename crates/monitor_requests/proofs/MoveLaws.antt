@@ -21,7 +21,7 @@ use Rattle.confidential_hart.specs.Transition.{transition, afterOff}
 use Rattle.confidential_hart.proofs.HartLaws.{formed-facts, operation-formed}
 use Rattle.confidential_hart.proofs.StartLaws.{start-length, wake-length}
 use Rattle.confidential_hart.proofs.TransitionLaws.{transition-keeps, transition-length, transition-formed}
-use Rattle.hart_rows.specs.Rows.{hartWords, fromWords, toWords, hartAt}
+use Rattle.hart_rows.specs.HartRows.{hartWords, fromWords, toWords, hartAt}
 use Rattle.hart_rows.proofs.HartRowLaws.{to-length, load-store, load-store-other}
 use Rattle.monitor_requests.specs.declared.Request.the-variants.{Steal, Return, Start, Suspend, Stop, Wake, Off, Await}
 use Rattle.monitor_requests.specs.Tables.{Tables, tables, harts, hardwareHarts, homeHart, hardwareHart, rowSound, homeRowSound, hardwareRowSound, sound, Sized}
@@ -385,59 +385,59 @@ module _ (t : Tables) (s : sound t ≡ true) (k : ℕ) (l : k < hardwareHarts t)
 -- ---- the requests
 
 -- a steal leaves sound tables sound
-pub steal-sound : (hart : ConfidentialHartId) (on : HardwareHartId) (t : Tables) → sound t ≡ true
-    → sound (performed (Steal hart on) t .after) ≡ true
+pub steal-sound : (hart : ConfidentialHartId) (on : HardwareHartId) (t : Tables) (effects : List ℕ) → sound t ≡ true
+    → sound (performed (Steal hart on) t effects .after) ≡ true
 unfolding tests effect
-steal-sound hart on t s =
-    effect-sound (Steal hart on) t s (λ p.
+steal-sound hart on t effects s =
+    effect-sound (Steal hart on) t effects s (λ p.
     left-sound t s (hart .0) (on .0) (leb-false _ _ (p .1 .1 .1 .0)) (leb-false _ _ (p .1 .0)) (eqb-false _ _ (p .1 .1 .1 .1 .0))
     (eqb-true _ _ (not-false _ (p .1 .1 .0))))
 
 -- a return leaves them sound
-pub return-sound : (on : HardwareHartId) (t : Tables) → sound t ≡ true → sound (performed (Return on) t .after) ≡ true
+pub return-sound : (on : HardwareHartId) (t : Tables) (effects : List ℕ) → sound t ≡ true → sound (performed (Return on) t effects .after) ≡ true
 unfolding tests effect
-return-sound on t s =
-    effect-sound (Return on) t s (λ p.
+return-sound on t effects s =
+    effect-sound (Return on) t effects s (λ p.
     let l = leb-false _ _ (p .1 .0) in
     let n = held-names t s (on .0) l (p .1 .1 .0) in
     back-sound t s (hardwareHart t (on .0) .id) (on .0) (n .there) l (eqb-false _ _ (p .1 .1 .0)) refl (n .held) (n .back))
 
 -- a start leaves them sound
-pub start-sound : (hart : ConfidentialHartId) (address opaque : ℕ) (t : Tables) → sound t ≡ true
-    → sound (performed (Start hart address opaque) t .after) ≡ true
+pub start-sound : (hart : ConfidentialHartId) (address opaque : ℕ) (t : Tables) (effects : List ℕ) → sound t ≡ true
+    → sound (performed (Start hart address opaque) t effects .after) ≡ true
 unfolding tests effect
-start-sound hart address opaque t s =
-    effect-sound (Start hart address opaque) t s (λ p.
+start-sound hart address opaque t effects s =
+    effect-sound (Start hart address opaque) t effects s (λ p.
     home-changed-sound t s 0 _ _ (hart .0) (leb-false _ _ (p .1 .0))
     (start-length (homeHart t (hart .0) .id) address opaque (homeHart t (hart .0) .registers)))
 
 -- so does a suspend
-pub suspend-sound : (on : HardwareHartId) (t : Tables) → sound t ≡ true → sound (performed (Suspend on) t .after) ≡ true
+pub suspend-sound : (on : HardwareHartId) (t : Tables) (effects : List ℕ) → sound t ≡ true → sound (performed (Suspend on) t effects .after) ≡ true
 unfolding tests effect
-suspend-sound on t s = effect-sound (Suspend on) t s (λ p. held-changed-sound t s 1 _ _ (on .0) (leb-false _ _ (p .1 .0)) refl)
+suspend-sound on t effects s = effect-sound (Suspend on) t effects s (λ p. held-changed-sound t s 1 _ _ (on .0) (leb-false _ _ (p .1 .0)) refl)
 
 -- a stop
-pub stop-sound : (on : HardwareHartId) (t : Tables) → sound t ≡ true → sound (performed (Stop on) t .after) ≡ true
+pub stop-sound : (on : HardwareHartId) (t : Tables) (effects : List ℕ) → sound t ≡ true → sound (performed (Stop on) t effects .after) ≡ true
 unfolding tests effect
-stop-sound on t s = effect-sound (Stop on) t s (λ p. held-changed-sound t s 2 _ _ (on .0) (leb-false _ _ (p .1 .0)) refl)
+stop-sound on t effects s = effect-sound (Stop on) t effects s (λ p. held-changed-sound t s 2 _ _ (on .0) (leb-false _ _ (p .1 .0)) refl)
 
 -- a wake
-pub wake-sound : (on : HardwareHartId) (address opaque : ℕ) (t : Tables) → sound t ≡ true → sound (performed (Wake on address opaque) t .after) ≡ true
+pub wake-sound : (on : HardwareHartId) (address opaque : ℕ) (t : Tables) (effects : List ℕ) → sound t ≡ true → sound (performed (Wake on address opaque) t effects .after) ≡ true
 unfolding tests effect
-wake-sound on address opaque t s =
-    effect-sound (Wake on address opaque) t s (λ p.
+wake-sound on address opaque t effects s =
+    effect-sound (Wake on address opaque) t effects s (λ p.
     held-changed-sound t s 3 _ _ (on .0) (leb-false _ _ (p .1 .0)) (wake-length address opaque (hardwareHart t (on .0) .registers)))
 
 -- an off
-pub off-sound : (on : HardwareHartId) (t : Tables) → sound t ≡ true → sound (performed (Off on) t .after) ≡ true
+pub off-sound : (on : HardwareHartId) (t : Tables) (effects : List ℕ) → sound t ≡ true → sound (performed (Off on) t effects .after) ≡ true
 unfolding tests effect
-off-sound on t s = effect-sound (Off on) t s (λ p. off-held-sound t s (on .0) (leb-false _ _ (p .1 .0)))
+off-sound on t effects s = effect-sound (Off on) t effects s (λ p. off-held-sound t s (on .0) (leb-false _ _ (p .1 .0)))
 
 -- and an await
-pub await-sound : (on : HardwareHartId) (kind x y : ℕ) (t : Tables) → sound t ≡ true → sound (performed (Await on kind x y) t .after) ≡ true
+pub await-sound : (on : HardwareHartId) (kind x y : ℕ) (t : Tables) (effects : List ℕ) → sound t ≡ true → sound (performed (Await on kind x y) t effects .after) ≡ true
 unfolding tests effect
-await-sound on kind x y t s =
-    effect-sound (Await on kind x y) t s (λ p.
+await-sound on kind x y t effects s =
+    effect-sound (Await on kind x y) t effects s (λ p.
     let known = not-false _ (p .1 .0) in
     let some = eqb-false _ _ (not-true _ (and-left (not (eqb kind noOperation)) _ known)) in
     operation-held-sound t s (on .0) (leb-false _ _ (p .1 .1 .0)) (p .1 .1 .1 .0) kind x y

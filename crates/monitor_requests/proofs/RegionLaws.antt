@@ -80,28 +80,28 @@ module _ (t : Tables) (s : sound t ≡ true) where
 -- ---- the requests
 
 -- adding a region leaves sound tables sound
-pub add-sound : (base size : ℕ) (t : Tables) → sound t ≡ true → sound (performed (Add base size) t .after) ≡ true
+pub add-sound : (base size : ℕ) (t : Tables) (effects : List ℕ) → sound t ≡ true → sound (performed (Add base size) t effects .after) ≡ true
 unfolding tests effect
-add-sound base size t s =
-    effect-sound (Add base size) t s (λ p.
+add-sound base size t effects s =
+    effect-sound (Add base size) t effects s (λ p.
     let l : length (regionsOf t) < maxRegions = leb-false _ _ (p .1 .1 .0) in
     laid-tables-sound t s (regionsOf t ++ (regionFrom base size ∷ [])) (simp length-append (omega arith))
     (all-last ordered (regionFrom base size) (regionsOf t) ∙ and-both (upright t s) (le-leb base (base + size) (omega arith))))
 
 -- removing regions leaves them sound
-pub remove-sound : (base size : ℕ) (t : Tables) → sound t ≡ true → sound (performed (Remove base size) t .after) ≡ true
+pub remove-sound : (base size : ℕ) (t : Tables) (effects : List ℕ) → sound t ≡ true → sound (performed (Remove base size) t effects .after) ≡ true
 unfolding effect
-remove-sound base size t s =
-    effect-sound (Remove base size) t s (λ _.
+remove-sound base size t effects s =
+    effect-sound (Remove base size) t effects s (λ _.
     laid-tables-sound t s (withRemoved (regionFrom base size) (regionsOf t))
     (omega (arith, removed-few (regionFrom base size) (regionsOf t), standing-length (t .regions) (regionCount t), facts t s .sized .few-regions))
     (removed-ordered (regionFrom base size) (regionsOf t) (upright t s)))
 
 -- allowing interrupts leaves them sound
-pub allow-sound : (bits : ℕ) (t : Tables) → sound t ≡ true → sound (performed (Allow bits) t .after) ≡ true
+pub allow-sound : (bits : ℕ) (t : Tables) (effects : List ℕ) → sound t ≡ true → sound (performed (Allow bits) t effects .after) ≡ true
 unfolding effect
-allow-sound bits t s =
-    effect-sound (Allow bits) t s (λ _.
+allow-sound bits t effects s =
+    effect-sound (Allow bits) t effects s (λ _.
     let mask : ℕ = bitOr (allowed t) bits in
     head-sound t (facts t s) (set (t .head) allowedWord mask) (t .regions) (length-set (t .head) allowedWord mask)
     (getD-set-other (t .head) allowedWord hartsWord mask 0 (λ e. omega arith))

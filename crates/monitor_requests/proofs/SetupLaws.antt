@@ -18,15 +18,14 @@ use Rattle.table_rows.proofs.ZeroLaws.{zeros-all-zero}
 use Rattle.confidential_hart.specs.declared.ConfidentialHart.{ConfidentialHart}
 use Rattle.confidential_hart.specs.Hart.{noVm, theVm, registerCount, wellFormed, dummy}
 use Rattle.confidential_hart.proofs.HartLaws.{dummy-formed, reset-formed, boot-formed}
-use Rattle.hart_rows.specs.Rows.{hartWords, fromWords, toWords, hartAt}
+use Rattle.hart_rows.specs.HartRows.{hartWords, fromWords, toWords, hartAt}
 use Rattle.hart_rows.proofs.HartRowLaws.{to-length, from-to}
 use Rattle.remote_commands.specs.Queue.{queueWords, queueWellFormed, emptied}
 use Rattle.remote_commands.proofs.OfferLaws.{emptied-well-formed}
 use Rattle.mmio_regions.specs.Regions.{maxRegions}
 use Rattle.mmio_regions.specs.Table.{regionWords, standing, regionsSound}
 use Rattle.mmio_regions.proofs.SoundLaws as regions
-use Rattle.monitor_requests.specs.declared.Setup as declared
-use Rattle.monitor_requests.specs.declared.Request.the-variants.{Setup}
+use Rattle.monitor_requests.specs.declared.Setup.{Setup}
 use Rattle.monitor_requests.specs.declared.Answer.the-variants.{Refused, Done}
 use Rattle.monitor_requests.specs.Tables.{
   Tables,
@@ -42,7 +41,7 @@ use Rattle.monitor_requests.specs.Tables.{
   Long,
   sound,
 }
-use Rattle.monitor_requests.specs.Requests.{Outcome, outcome, setupHart, fresh, tests, effect, performed}
+use Rattle.monitor_requests.specs.Requests.{Outcome, answering, setupHart, fresh, setupTests, setUp}
 use Rattle.monitor_requests.proofs.SoundLaws.{
   sound-own,
   long-facts,
@@ -60,13 +59,13 @@ not-done : (e : Error) → Refused e ≡ Done → ⊥
 not-done e p = let z : _≡_ {A = ℕ} 0 1 = cc in omega arith
 
 -- what an accepted setup tells: counts in range, a boot hart that is there, tables long enough, and the outcome
-pub record Accepted (s : declared.Setup) (t : Tables) : Type 0 where
+pub record Accepted (s : Setup) (t : Tables) : Type 0 where
   pub ranged : countsInRange (s .harts) (s .hardware) ≡ true
   pub boots : s .boot < s .harts
   pub long : Long t (s .harts) (s .hardware)
-  pub done : performed (Setup s) t ≡ outcome Done (fresh s t)
+  pub done : setUp s t ≡ answering Done (fresh s t) []
 
-module _ (s : declared.Setup) (t : Tables) where
+module _ (s : Setup) (t : Tables) where
   abbrev range : Bool
   range = countsInRange (s .harts) (s .hardware)
 
@@ -77,8 +76,8 @@ module _ (s : declared.Setup) (t : Tables) where
   roomy = longEnough t (s .harts) (s .hardware)
 
   -- a setup that answers done is accepted
-  pub accepted : performed (Setup s) t .answer ≡ Done → Accepted s t
-  unfolding performed tests effect
+  pub accepted : setUp s t .answer ≡ Done → Accepted s t
+  unfolding setUp setupTests
   accepted e =
       by-test (not (range && below))
       (λ r. absurd (not-done _ (ap (λ (o : Outcome). o .answer) (yes _ r refl) ∙ e)))
@@ -96,7 +95,7 @@ module _ (s : declared.Setup) (t : Tables) where
 
 -- ---- the harts
 
-module _ (s : declared.Setup) (h : ℕ) where
+module _ (s : Setup) (h : ℕ) where
   -- each hart of a setup, the boot hart or one after a reset, is well formed
   pub setup-formed : wellFormed (setupHart s h) ≡ true
   setup-formed =
@@ -152,7 +151,7 @@ zeros-sound n ys e =
 -- ---- the tables at setup
 
 -- what they hold
-pub record SetUp (s : declared.Setup) (t : Tables) : Type 0 where
+pub record SetUp (s : Setup) (t : Tables) : Type 0 where
   pub harts-set : harts t ≡ s .harts
   pub hardware-set : hardwareHarts t ≡ s .hardware
   pub none-allowed : allowed t ≡ 0
@@ -162,7 +161,7 @@ pub record SetUp (s : declared.Setup) (t : Tables) : Type 0 where
   pub none-stands : regionsOf t ≡ []
 
 -- the tables at setup hold it
-pub fresh-rows : (s : declared.Setup) (t : Tables) → SetUp s (fresh s t)
+pub fresh-rows : (s : Setup) (t : Tables) → SetUp s (fresh s t)
 unfolding emptied standing upTo
 fresh-rows s t = record {
   harts-set = refl;
@@ -175,7 +174,7 @@ fresh-rows s t = record {
 }
 
 -- each is as long as it was
-module _ (s : declared.Setup) (t : Tables) (l : Long t (s .harts) (s .hardware)) where
+module _ (s : Setup) (t : Tables) (l : Long t (s .harts) (s .hardware)) where
   -- the head
   pub head-length : length (fresh s t .head) ≡ length (t .head)
   head-length = over-length (s .harts ∷ s .hardware ∷ 0 ∷ 0 ∷ []) (t .head) (l .head-long)
@@ -204,7 +203,7 @@ module _ (s : declared.Setup) (t : Tables) (l : Long t (s .harts) (s .hardware))
       over-length (replicate (maxRegions * regionWords) 0) (t .regions)
       (rw (length-replicate {A = ℕ} (maxRegions * regionWords) 0) (l .regions-long))
 
-module _ (s : declared.Setup) (t : Tables) (a : Accepted s t) where
+module _ (s : Setup) (t : Tables) (a : Accepted s t) where
   abbrev after : Tables
   after = fresh s t
 
@@ -246,15 +245,15 @@ module _ (s : declared.Setup) (t : Tables) (a : Accepted s t) where
 
 -- ---- an accepted setup
 
-module _ (s : declared.Setup) (t : Tables) (e : performed (Setup s) t .answer ≡ Done) where
+module _ (s : Setup) (t : Tables) (e : setUp s t .answer ≡ Done) where
   -- the tables are those at setup
-  pub setup-done : performed (Setup s) t .after ≡ fresh s t
+  pub setup-done : setUp s t .after ≡ fresh s t
   setup-done = ap (λ (o : Outcome). o .after) (accepted s t e .done)
 
   -- they are sound
-  pub setup-sound : sound (performed (Setup s) t .after) ≡ true
+  pub setup-sound : sound (setUp s t .after) ≡ true
   setup-sound = ap sound setup-done ∙ fresh-sound s t (accepted s t e)
 
   -- they hold what document 01 lists
-  pub setup-rows : SetUp s (performed (Setup s) t .after)
+  pub setup-rows : SetUp s (setUp s t .after)
   setup-rows = rw setup-done (fresh-rows s t)

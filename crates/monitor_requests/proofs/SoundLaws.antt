@@ -1,4 +1,4 @@
--- What sound tables are, fact by fact, and soundness from the facts; they are sound exactly when document 01's paragraph holds.
+-- What sound tables are, fact by fact, and soundness from the facts; they are sound exactly when every sentence of `Soundness.antt` holds.
 -- Assumes nothing.
 use Prim.Native.Nat.{ℕ, _*_, _≤_, _<_}
 use mathlib.Core.Path.{_≡_, refl, sym, _∙_}
@@ -16,7 +16,7 @@ use Rattle.table_rows.proofs.EveryLaws.{every-at, every-of}
 use Rattle.confidential_hart.specs.declared.ConfidentialHart.{ConfidentialHart}
 use Rattle.confidential_hart.specs.Hart.{noVm, theVm, isDummy, wellFormed}
 use Rattle.confidential_hart.proofs.HartLaws.{formed-facts}
-use Rattle.hart_rows.specs.Rows.{hartWords, hartAt}
+use Rattle.hart_rows.specs.HartRows.{hartWords, hartAt}
 use Rattle.remote_commands.specs.Queue.{queueWords, queueWellFormed}
 use Rattle.mmio_regions.specs.Regions.{maxRegions}
 use Rattle.mmio_regions.specs.Table.{regionWords, regionsSound}
@@ -42,6 +42,7 @@ use Rattle.monitor_requests.specs.Tables.{
   sound,
   Sized,
 }
+use Rattle.monitor_requests.specs.Soundness.{homeHolds, hardwareHolds, SoundBySentence}
 
 -- ---- a row
 
@@ -309,14 +310,6 @@ module _ (t : Tables) (s : sound t ≡ true) where
 
 -- ---- home row h holds dummy k exactly when hardware row k holds real hart h
 
--- home row h holds dummy k
-abbrev pub homeHolds : Tables → ℕ → ℕ → Bool
-homeHolds t h k = isDummy (homeHart t h) && eqb (homeHart t h .id) k
-
--- hardware row k holds real hart h
-abbrev pub hardwareHolds : Tables → ℕ → ℕ → Bool
-hardwareHolds t h k = not (isDummy (hardwareHart t k)) && eqb (hardwareHart t k .id) h
-
 -- a well-formed record that is no dummy is of the one VM
 real-vm : (x : ConfidentialHart) → wellFormed x ≡ true → isDummy x ≡ false → x .vm ≡ theVm
 real-vm x w d = let n : x .vm ≢ noVm = eqb-false _ _ d in omega (arith, formed-facts x w .vm-known)
@@ -345,35 +338,11 @@ exactly-when t s h k lh lk =
     let j : homeHart t h .id ≡ k = rw i at (n .back) in
     and-both (eq-eqb _ _ v) (eq-eqb _ _ j))
 
--- ---- sound exactly when document 01's paragraph holds
+-- ---- sound exactly when every sentence holds
 
--- the paragraph, sentence by sentence
-pub record Paragraph (t : Tables) : Type 0 where
-  -- counts are in range
-  pub some-harts : 1 ≤ harts t
-  pub few-harts : harts t ≤ maxHarts
-  pub some-hardware : 1 ≤ hardwareHarts t
-  pub few-hardware : hardwareHarts t ≤ maxHardwareHarts
-  -- the tables are long enough: n home rows, m hardware rows, n queues of 64, always 1,024 regions
-  pub long-enough : Long t (harts t) (hardwareHarts t)
-  -- the record of a home row is as it must be; a real one is that of the row's hart, and a dummy is that of one of the m hardware harts
-  pub home-record : (h : ℕ) → h < harts t → wellFormed (homeHart t h) ≡ true
-  pub home-real : (h : ℕ) → h < harts t → isDummy (homeHart t h) ≡ false → homeHart t h .id ≡ h
-  pub home-dummy : (h : ℕ) → h < harts t → isDummy (homeHart t h) ≡ true → homeHart t h .id < hardwareHarts t
-  -- so is that of a hardware row; a dummy is the row's own, and a real one is numbered below n
-  pub hardware-record : (k : ℕ) → k < hardwareHarts t → wellFormed (hardwareHart t k) ≡ true
-  pub hardware-dummy : (k : ℕ) → k < hardwareHarts t → isDummy (hardwareHart t k) ≡ true → hardwareHart t k .id ≡ k
-  pub hardware-real : (k : ℕ) → k < hardwareHarts t → isDummy (hardwareHart t k) ≡ false → hardwareHart t k .id < harts t
-  -- home row h holds dummy k exactly when hardware row k holds real hart h
-  pub holds-exactly : (h k : ℕ) → h < harts t → k < hardwareHarts t → homeHolds t h k ≡ hardwareHolds t h k
-  -- a queue has at most 64 commands, each as it must be, and its unused places are 0
-  pub queue-record : (h : ℕ) → h < harts t → queueWellFormed (queue t h) ≡ true
-  -- at most 1,024 regions stand, each with base ≤ end, and the unused places are 0
-  pub regions-record : regionsSound (t .regions) (regionCount t) ≡ true
-
--- sound tables are as it says
-pub sound-paragraph : (t : Tables) → sound t ≡ true → Paragraph t
-sound-paragraph t s =
+-- sound tables are as the sentences say
+pub sound-sentences : (t : Tables) → sound t ≡ true → SoundBySentence t
+sound-sentences t s =
     let f = sound-facts t s in
     let z = f .sized in
     record {
@@ -394,10 +363,10 @@ sound-paragraph t s =
       regions-record = f .regions-sound;
     }
 
-module _ (t : Tables) (p : Paragraph t) where
+module _ (t : Tables) (p : SoundBySentence t) where
   -- a dummy at home names the hardware row that holds the hart of this row
-  paragraph-home : (h : ℕ) → h < harts t → homeRowSound t h ≡ true
-  paragraph-home h l =
+  sentence-home : (h : ℕ) → h < harts t → homeRowSound t h ≡ true
+  sentence-home h l =
       let w = p .home-record h l in
       by-test (isDummy (homeHart t h))
       (λ d.
@@ -415,8 +384,8 @@ module _ (t : Tables) (p : Paragraph t) where
       (λ d. sound-own theVm (t .home) (t .hardware) (hardwareHarts t) h w (real-vm (homeHart t h) w d) (p .home-real h l d))
 
   -- a real hart on hardware names the home row that holds the dummy of this row
-  paragraph-hardware : (k : ℕ) → k < hardwareHarts t → hardwareRowSound t k ≡ true
-  paragraph-hardware k l =
+  sentence-hardware : (k : ℕ) → k < hardwareHarts t → hardwareRowSound t k ≡ true
+  sentence-hardware k l =
       let w = p .hardware-record k l in
       by-test (isDummy (hardwareHart t k))
       (λ d. sound-own noVm (t .hardware) (t .home) (harts t) k w (eqb-true _ _ d) (p .hardware-dummy k l d))
@@ -431,9 +400,9 @@ module _ (t : Tables) (p : Paragraph t) where
         back = eqb-true _ _ (and-right (isDummy (homeHart t h)) _ e);
       }))
 
-  -- and tables as it says are sound
-  pub paragraph-sound : sound t ≡ true
-  paragraph-sound =
+  -- and tables of which they hold are sound
+  pub sentences-sound : sound t ≡ true
+  sentences-sound =
       facts-sound t
       (record {
         sized = record {
@@ -444,12 +413,12 @@ module _ (t : Tables) (p : Paragraph t) where
           few-regions = regions.sound-sized (t .regions) (regionCount t) (p .regions-record) .few;
           long = p .long-enough;
         };
-        home-row = paragraph-home;
-        hardware-row = paragraph-hardware;
+        home-row = sentence-home;
+        hardware-row = sentence-hardware;
         queue-formed = p .queue-record;
         regions-sound = p .regions-record;
       })
 
--- tables are sound exactly when the paragraph holds of them
-pub sound-exactly : (t : Tables) → (sound t ≡ true) ↔ Paragraph t
-sound-exactly t = (sound-paragraph t, paragraph-sound t)
+-- tables are sound exactly when every sentence holds of them
+pub sound-exactly : (t : Tables) → (sound t ≡ true) ↔ SoundBySentence t
+sound-exactly t = (sound-sentences t, sentences-sound t)

@@ -8,10 +8,11 @@ use native.Mathlib.Nat.{zero-mul, suc-mul}
 use native.Mathlib.Omega.{arith}
 use lib.ListN.{length, take, drop, getD, set, replicate, length-drop, length-replicate, take-append-drop}
 use lib.Seq.{getD-set-other, drop-set-lt, getD-take, getD-drop, length-take-le, take-add, ext-getD, drop-at}
-use lib.Dec.{eqb}
+use lib.Dec.{eqb, ltb}
 use borrow.Author.Tests.{eq-eqb, eqb-false, lt-ltb, ltb-true}
-use Rattle.table_rows.specs.Rows.{put, row, rowsOf}
-use Rattle.table_rows.proofs.SomeLaws.{some-none}
+use Rattle.table_rows.specs.Rows.{put, row, rowsOf, over}
+use Rattle.table_rows.proofs.PickLaws.{by-pick, by-test}
+use Rattle.table_rows.proofs.ExistsLaws.{exists-none}
 use Rattle.table_rows.proofs.RowLaws as rows
 use Rattle.table_rows.proofs.RowLaws.{words-all, row-length, put-length, put-elsewhere, row-put-other}
 use Rattle.table_rows.proofs.RunLaws.{run-length}
@@ -21,14 +22,18 @@ use Rattle.mmio_regions.specs.Table.{regionWords}
 use Rattle.mmio_regions.proofs.TableLaws.{laid-past}
 use Rattle.confidential_hart_remote_command.specs.declared.ConfidentialHartRemoteCommand.{ConfidentialHartRemoteCommand}
 use Rattle.confidential_hart_remote_command.specs.Selection.{selects}
-use Rattle.remote_commands.specs.Queue.{queueWords}
+use Rattle.remote_commands.specs.Queue.{maxCommands, queueWords, emptied}
+use Rattle.remote_commands.proofs.OfferLaws.{commands-length, well-formed-count, emptied-length}
+use Rattle.effects.specs.Effects.{effectWords, effectsOf}
+use Rattle.effects.proofs.EffectLaws.{over-as-long, over-kept}
 use Rattle.confidential_hart.specs.declared.ConfidentialHart.{ConfidentialHart}
-use Rattle.confidential_hart.specs.Hart.{dummy}
-use Rattle.hart_rows.specs.Rows.{hartWords, toWords}
+use Rattle.confidential_hart.specs.Hart.{noOperation, withOperation, dummy}
+use Rattle.confidential_hart.specs.Transition.{afterOff}
+use Rattle.hart_rows.specs.HartRows.{hartWords, toWords}
 use Rattle.hart_rows.proofs.HartRowLaws.{to-length}
-use Rattle.monitor_requests.specs.declared.Setup as declared
+use Rattle.monitor_requests.specs.declared.Setup.{Setup}
 use Rattle.monitor_requests.specs.declared.Request.{Request}
-use Rattle.monitor_requests.specs.declared.Request.the-variants.{Setup, Send}
+use Rattle.monitor_requests.specs.declared.Request.the-variants.{Send, Process, Resume}
 use Rattle.monitor_requests.specs.Tables.{
   Tables,
   tables,
@@ -44,21 +49,9 @@ use Rattle.monitor_requests.specs.Tables.{
   hardwareHart,
   sound,
   Sized,
+  queue,
 }
-use Rattle.monitor_requests.specs.Requests.{
-  Outcome,
-  withHead,
-  withHome,
-  withHeld,
-  withQueues,
-  withRegions,
-  exchanged,
-  setupHart,
-  receives,
-  broadcast,
-  effect,
-  performed,
-}
+use Rattle.monitor_requests.specs.Requests.{Outcome, withHead, withHome, withHeld, withQueues, withRegions, exchanged, setupHart, receives, broadcast, performed, setUp, withHardware, didRows, ownCommands, Going, heldId, heldCommands, effect}
 use Rattle.monitor_requests.specs.Writes.{
   Place,
   homeRow,
@@ -73,11 +66,13 @@ use Rattle.monitor_requests.specs.Writes.{
   writes,
   past,
 }
-use Rattle.monitor_requests.proofs.SoundLaws.{sound-sized}
+use Rattle.monitor_requests.proofs.SoundLaws.{sound-facts, sound-sized}
 use Rattle.monitor_requests.proofs.MoveLaws.{home-fits, hardware-fits}
 use Rattle.monitor_requests.proofs.BroadcastLaws.{broadcast-length, broadcast-past, passed-row}
-use Rattle.monitor_requests.proofs.JudgedLaws.{by-performed, isSetup}
-use Rattle.monitor_requests.proofs.RequestLaws.{by-request}
+use Rattle.monitor_requests.proofs.RequestLaws.{room-kept, by-doing, SameLengths, same-lengths, done, emptied-too, gone-on, done-sound, emptied-too-sound, ownDone, by-request, performed-lengths, by-set-up}
+use Rattle.monitor_requests.proofs.JudgedLaws.{by-performed, unsound-refused}
+use Rattle.monitor_requests.proofs.DoingLaws.{by-going, queue-fits, emptied-other}
+use Rattle.monitor_requests.proofs.HeldLaws.{Held, broadcast-room, by-broadcast, process-held, process-room, resume-tests}
 
 -- ---- each request writes only its places
 
@@ -137,7 +132,7 @@ module _ (t : Tables) (s : sound t ≡ true) where
   sent-only sender c (queueRow i) l e =
       let b : i < harts t = ltb-true _ _ l in
       passed-row sender c t s i b
-      (receives-none sender c i (some-none (λ h. eqb i h && selects c h && not (eqb h sender)) i (harts t) b e))
+      (receives-none sender c i (exists-none (λ h. eqb i h && selects c h && not (eqb h sender)) i (harts t) b e))
   sent-only sender c regionTable l e = refl
   sent-only sender c allowedMask l e = refl
   sent-only sender c counts l e = refl
@@ -165,26 +160,78 @@ module _ (t : Tables) (s : sound t ≡ true) where
   regions-only rs allowedMask l e = ap (λ (n : ℕ). n ∷ []) (head-other regionsWord allowedWord (length rs) refl)
   regions-only rs counts l e = counts-other regionsWord (length rs) refl refl
 
+-- which rows there are is said by the head alone
+within-head : (p : Place) (t t′ : Tables) → t .head ≡ t′ .head → within p t ≡ true → within p t′ ≡ true
+within-head (homeRow h) t t′ e w = sym (ap (λ (head : List ℕ). ltb h (getD head hartsWord 0)) e) ∙ w
+within-head (hardwareRow k) t t′ e w = sym (ap (λ (head : List ℕ). ltb k (getD head hardwareWord 0)) e) ∙ w
+within-head (queueRow h) t t′ e w = sym (ap (λ (head : List ℕ). ltb h (getD head hartsWord 0)) e) ∙ w
+within-head regionTable t t′ e w = w
+within-head allowedMask t t′ e w = w
+within-head counts t t′ e w = w
+
+module _ (t : Tables) (k : ℕ) (x : Held t k) (cs : List ConfidentialHartRemoteCommand) where
+  -- places
+  done-only : (p : Place) → within p t ≡ true → same p (hardwareRow k) ≡ false → wordsAt p (done t k x cs) ≡ wordsAt p t
+  unfolding didRows
+  done-only p w e =
+      by-pick (λ (rows : List ℕ). wordsAt p (withHardware rows t) ≡ wordsAt p t) _ _ _
+      (λ _. held-only t (x .tables-sound) k (x .k-below) (afterOff (hardwareHart t k) .hart) p w e)
+      (λ _. refl)
+
+  emptied-only : (p : Place) → within p t ≡ true → same p (queueRow (heldId t k)) ≡ false → wordsAt p (emptied-too t k x cs) ≡ wordsAt p (done t k x cs)
+  emptied-only (homeRow i) w e = refl
+  emptied-only (hardwareRow i) w e = refl
+  emptied-only (queueRow i) w e = emptied-other t (x .tables-sound) (heldId t k) (x .id-below) i (ltb-true _ _ w) e
+  emptied-only regionTable w e = refl
+  emptied-only allowedMask w e = refl
+  emptied-only counts w e = refl
+
+  gone-only : (p : Place) → within p t ≡ true → same p (hardwareRow k) ≡ false → wordsAt p (gone-on t k x cs) ≡ wordsAt p (emptied-too t k x cs)
+  gone-only p w e =
+      by-going ((emptied-too t k x cs) .hardware) k (λ (g : Going). wordsAt p (withHardware (g .hardware) (emptied-too t k x cs)) ≡ wordsAt p (emptied-too t k x cs)) (λ _. refl)
+      (λ _ _.
+      held-only (emptied-too t k x cs) (emptied-too-sound t k x cs) k (x .k-below) (withOperation noOperation 0 0 (hardwareHart (emptied-too t k x cs) k)) p
+      (within-head p t (emptied-too t k x cs) refl w)
+      e)
+      (λ _ _. refl)
+
+neither : (a b : Bool) → a || b ≡ false → (a ≡ false) × (b ≡ false)
+neither true b e = absurd (false≢true (sym e))
+neither false b e = (refl, e)
+
+module _ (t : Tables) (s : sound t ≡ true) where
   -- the words of a place that the request does not write are as they were
-  pub writes-only : (r : Request) (p : Place) → within p t ≡ true → writes r t p ≡ false → wordsAt p (performed r t .after) ≡ wordsAt p t
+  pub sound-writes-only : (r : Request) (effects : List ℕ) (p : Place) → within p t ≡ true → writes r t p ≡ false → wordsAt p (performed r t effects .after) ≡ wordsAt p t
   unfolding writes
-  writes-only =
-      by-request t s (λ r t′. Only (writes r t) t′) (record {
+  sound-writes-only r effects =
+      by-request t s (λ r t′. Only t s (writes r t) t′) (record {
         unchanged = λ r p l e. refl;
-        setup = λ x a p l e. absurd (false≢true (sym e));
-        steal = λ hart on lh lk p l e. exchanged-only (hart .0) (on .0) lh lk p l e;
-        back = λ on lh lk p l e. exchanged-only (hardwareHart t (on .0) .id) (on .0) lh lk p l e;
-        start = λ hart address opaque lh y p l e. started-only (hart .0) lh y p l e;
-        suspend = λ on lk y p l e. held-only (on .0) lk y p l e;
-        stop = λ on lk y p l e. held-only (on .0) lk y p l e;
-        wake = λ on address opaque lk y p l e. held-only (on .0) lk y p l e;
-        off = λ on lk y p l e. held-only (on .0) lk y p l e;
-        await = λ on kind x y lk held p l e. held-only (on .0) lk held p l e;
-        send = sent-only;
-        allow = λ bits mask p l e. allowed-only mask p l e;
-        add = λ base size rs few p l e. regions-only rs p l e;
-        remove = λ base size rs few p l e. regions-only rs p l e;
-      })
+        steal = λ hart on lh lk p l e. exchanged-only t s (hart .0) (on .0) lh lk p l e;
+        back = λ on lh lk p l e. exchanged-only t s (hardwareHart t (on .0) .id) (on .0) lh lk p l e;
+        start = λ hart address opaque lh y p l e. started-only t s (hart .0) lh y p l e;
+        suspend = λ on lk y p l e. held-only t s (on .0) lk y p l e;
+        stop = λ on lk y p l e. held-only t s (on .0) lk y p l e;
+        wake = λ on address opaque lk y p l e. held-only t s (on .0) lk y p l e;
+        off = λ on lk y p l e. held-only t s (on .0) lk y p l e;
+        await = λ on kind x y lk held p l e. held-only t s (on .0) lk held p l e;
+        send = sent-only t s;
+        allow = λ bits mask p l e. allowed-only t s mask p l e;
+        add = λ base size rs few p l e. regions-only t s rs p l e;
+        remove = λ base size rs few p l e. regions-only t s rs p l e;
+        sent-held = λ on c x p l e.
+            let n = neither (same p (hardwareRow (on .0))) _ e in
+            let h = heldId t (on .0) in
+            sent-only (ownDone on c t) (done-sound t (on .0) x (ownCommands c h)) h c p (within-head p t (ownDone on c t) refl l) (n .1)
+            ∙ done-only t (on .0) x (ownCommands c h) p l (n .0);
+        process = λ on x p l e.
+            let n = neither (same p (hardwareRow (on .0))) _ e in
+            emptied-only t (on .0) x (heldCommands t (on .0)) p l (n .1) ∙ done-only t (on .0) x (heldCommands t (on .0)) p l (n .0);
+        resume = λ on x p l e.
+            let n = neither (same p (hardwareRow (on .0))) _ e in
+            gone-only t (on .0) x (heldCommands t (on .0)) p l (n .0)
+            ∙ emptied-only t (on .0) x (heldCommands t (on .0)) p l (n .1)
+            ∙ done-only t (on .0) x (heldCommands t (on .0)) p l (n .0);
+      }) effects r
 
 -- ---- words past the tables
 
@@ -235,36 +282,70 @@ module _ (t : Tables) (s : sound t ≡ true) where
       )
       refl
 
-  -- every request but a setup
-  pub past-kept : (r : Request) → isSetup r ≡ false → past (harts t) (hardwareHarts t) (performed r t .after) ≡ past (harts t) (hardwareHarts t) t
-  past-kept =
-      by-request t s (λ r t′. isSetup r ≡ false → Kept t′) (record {
-        unchanged = λ r e. refl;
-        setup = λ x a e. absurd (false≢true (sym e));
-        steal = λ hart on lh lk e. exchanged-kept (hart .0) (on .0) lh lk;
-        back = λ on lh lk e. exchanged-kept (hardwareHart t (on .0) .id) (on .0) lh lk;
-        start = λ hart address opaque l y e.
-            rw (drop-put hartWords (t .home) (hart .0) (harts t) l (home-fits t sized (hart .0) l) (toWords y) (to-length y)) refl;
-        suspend = λ on l y e. held-kept (on .0) l y;
-        stop = λ on l y e. held-kept (on .0) l y;
-        wake = λ on address opaque l y e. held-kept (on .0) l y;
-        off = λ on l y e. held-kept (on .0) l y;
-        await = λ on kind x y l held e. held-kept (on .0) l held;
-        send = λ sender c e.
-            rw (drop-same (t .queues) (broadcast sender c t .queues) (harts t * queueWords) (broadcast-length sender c t s) (broadcast-past sender c t s))
-            refl;
-        allow = λ bits mask e. rw (drop-set-lt headWords (t .head) allowedWord mask (omega arith)) refl;
-        add = λ base size rs few e. regions-kept rs few;
-        remove = λ base size rs few e. regions-kept rs few;
-      })
+  -- a broadcast of the tables
+  sent-kept : (sender : ℕ) (c : ConfidentialHartRemoteCommand) → Kept (withQueues (broadcast sender c t .queues) t)
+  sent-kept sender c =
+      rw (drop-same (t .queues) (broadcast sender c t .queues) (harts t * queueWords) (broadcast-length sender c t s) (broadcast-past sender c t s))
+      refl
+
+module _ (t : Tables) (k : ℕ) (x : Held t k) (cs : List ConfidentialHartRemoteCommand) where
+  -- words past the tables
+  abbrev pasts : Tables → Tables
+  pasts t′ = past (harts t) (hardwareHarts t) t′
+
+  done-kept : pasts (done t k x cs) ≡ pasts t
+  unfolding didRows
+  done-kept =
+      by-pick (λ (rows : List ℕ). pasts (withHardware rows t) ≡ pasts t) _ _ _
+      (λ _. held-kept t (x .tables-sound) k (x .k-below) (afterOff (hardwareHart t k) .hart))
+      (λ _. refl)
+
+  emptied-kept : pasts (emptied-too t k x cs) ≡ pasts (done t k x cs)
+  emptied-kept =
+      rw (drop-put queueWords (t .queues) (heldId t k) (harts t) (x .id-below)
+      (queue-fits t (x .tables-sound) (heldId t k) (x .id-below) (heldId t k) (x .id-below)) emptied emptied-length) refl
+
+  gone-kept : pasts (gone-on t k x cs) ≡ pasts (emptied-too t k x cs)
+  gone-kept =
+      by-going ((emptied-too t k x cs) .hardware) k (λ (g : Going). pasts (withHardware (g .hardware) (emptied-too t k x cs)) ≡ pasts (emptied-too t k x cs)) (λ _. refl)
+      (λ _ _. held-kept (emptied-too t k x cs) (emptied-too-sound t k x cs) k (x .k-below) (withOperation noOperation 0 0 (hardwareHart (emptied-too t k x cs) k)))
+      (λ _ _. refl)
+
+module _ (t : Tables) (s : sound t ≡ true) where
+  -- every request
+  pub sound-past-kept : (r : Request) (effects : List ℕ) → past (harts t) (hardwareHarts t) (performed r t effects .after) ≡ past (harts t) (hardwareHarts t) t
+  sound-past-kept r effects =
+      by-request t s (λ r t′. Kept t s t′) (record {
+        unchanged = λ r. refl;
+        steal = λ hart on lh lk. exchanged-kept t s (hart .0) (on .0) lh lk;
+        back = λ on lh lk. exchanged-kept t s (hardwareHart t (on .0) .id) (on .0) lh lk;
+        start = λ hart address opaque l y.
+            rw (drop-put hartWords (t .home) (hart .0) (harts t) l (home-fits t (sized t s) (hart .0) l) (toWords y) (to-length y)) refl;
+        suspend = λ on l y. held-kept t s (on .0) l y;
+        stop = λ on l y. held-kept t s (on .0) l y;
+        wake = λ on address opaque l y. held-kept t s (on .0) l y;
+        off = λ on l y. held-kept t s (on .0) l y;
+        await = λ on kind x y l held. held-kept t s (on .0) l held;
+        send = λ sender c. sent-kept t s sender c;
+        allow = λ bits mask. rw (drop-set-lt headWords (t .head) allowedWord mask (omega arith)) refl;
+        add = λ base size rs few. regions-kept t s rs few;
+        remove = λ base size rs few. regions-kept t s rs few;
+        sent-held = λ on c x.
+            let h = heldId t (on .0) in
+            sent-kept (ownDone on c t) (done-sound t (on .0) x (ownCommands c h)) h c ∙ done-kept t (on .0) x (ownCommands c h);
+        process = λ on x. emptied-kept t (on .0) x (heldCommands t (on .0)) ∙ done-kept t (on .0) x (heldCommands t (on .0));
+        resume = λ on x.
+            gone-kept t (on .0) x (heldCommands t (on .0))
+            ∙ emptied-kept t (on .0) x (heldCommands t (on .0))
+            ∙ done-kept t (on .0) x (heldCommands t (on .0));
+      }) effects r
 
 -- a setup of any tables: what lies past the tables of the new VM
-pub setup-past-kept : (s : declared.Setup) (t : Tables) → past (s .harts) (s .hardware) (performed (Setup s) t .after) ≡ past (s .harts) (s .hardware) t
-unfolding effect
+pub setup-past-kept : (s : Setup) (t : Tables) → past (s .harts) (s .hardware) (setUp s t .after) ≡ past (s .harts) (s .hardware) t
 setup-past-kept s t =
     let n = s .harts in
     let m = s .hardware in
-    by-performed (Setup s) t (λ (o : Outcome). past n m (o .after) ≡ past n m t) (λ _. refl)
+    by-set-up s t (λ (o : Outcome). past n m (o .after) ≡ past n m t) (λ _ _. refl)
     (λ _.
     rw (
       drop-over (rowsOf (λ h. toWords (setupHart s h)) n) (t .home) (n * hartWords)
@@ -331,3 +412,77 @@ module _ (t t′ : Tables) (long : headWords ≤ length (t .head)) (long′ : he
       let regions : t′ .regions ≡ t .regions =
       joined (maxRegions * regionWords) (t .regions) (t′ .regions) (ap (drop 1) (f regionTable refl)) (ap (λ (x : Tables). x .regions) e) in
       λ i. tables (head i) (home i) (hardware i) (queues i) (regions i)
+
+-- ---- the same of any tables: where they are not sound, 12 changes nothing
+
+module _ (t : Tables) (effects : List ℕ) where
+  by-soundness : (r : Request) (P : Tables → Type 0) → (sound t ≡ true → P (performed r t effects .after)) → P t
+      → P (performed r t effects .after)
+  by-soundness r P kept same-tables =
+      by-test (sound t) kept (λ s. rw (unsound-refused r t effects s) same-tables)
+
+  -- every request keeps the length of each table
+  pub lengths-kept : (r : Request) → SameLengths t (performed r t effects .after)
+  lengths-kept r = by-soundness r (SameLengths t) (λ s. performed-lengths t s r effects) (same-lengths t)
+
+  -- the words of a place that the request does not write are as they were
+  pub writes-only : (r : Request) (p : Place) → within p t ≡ true → writes r t p ≡ false
+      → wordsAt p (performed r t effects .after) ≡ wordsAt p t
+  writes-only r p w e = by-soundness r (λ t′. wordsAt p t′ ≡ wordsAt p t) (λ s. sound-writes-only t s r effects p w e) refl
+
+  -- words past the tables are as they were
+  pub past-kept : (r : Request)
+      → past (harts t) (hardwareHarts t) (performed r t effects .after) ≡ past (harts t) (hardwareHarts t) t
+  past-kept r =
+      by-soundness r (λ t′. past (harts t) (hardwareHarts t) t′ ≡ past (harts t) (hardwareHarts t) t) (λ s. sound-past-kept t s r effects) refl
+
+-- ---- the effects room, of any tables
+
+-- a sender does one command at most
+pub own-few : (c : ConfidentialHartRemoteCommand) (h : ℕ) → length (ownCommands c h) ≤ 1
+unfolding ownCommands
+own-few c h = by-pick (λ (cs : List ConfidentialHartRemoteCommand). length cs ≤ 1) (selects c h) _ _ (λ _. omega arith) (λ _. omega arith)
+
+-- 64 commands at most wait for a held hart
+pub held-few : (t : Tables) (k : ℕ) → Held t k → length (heldCommands t k) ≤ maxCommands
+held-few t k x =
+    let q = queue t (heldId t k) in
+    omega (arith, commands-length q, well-formed-count q (sound-facts t (x .tables-sound) .queue-formed (heldId t k) (x .id-below)))
+
+module _ (t : Tables) (effects : List ℕ) where
+  -- what holds of the effects room as it was, with no record, and of records of commands over its front, holds of every request
+  by-effects : (P : ℕ → List ℕ → Type 0) → P 0 effects
+      → ((h : ℕ) (cs : List ConfidentialHartRemoteCommand) → length cs * effectWords ≤ length effects → P (length cs) (over (effectsOf h cs) effects))
+      → (r : Request) → P (performed r t effects .did) (performed r t effects .effects)
+  unfolding effect
+  by-effects P none some =
+      by-doing (λ r. P (performed r t effects .did) (performed r t effects .effects)) (λ r e. rw (room-kept r t effects e) none)
+      (λ on c.
+      by-broadcast on c t effects (λ (o : Outcome). P (o .did) (o .effects)) (λ _. none)
+      (λ o own p.
+      let h = heldId t (on .0) in
+      rw (own .did-own, own .effects-own) (some h (ownCommands c h) (omega (arith, own-few c h, broadcast-room on c t effects p)))))
+      (λ on.
+      by-performed (Process on) t effects (λ (o : Outcome). P (o .did) (o .effects)) (λ _. none)
+      (λ p.
+      some (heldId t (on .0)) (heldCommands t (on .0))
+      (omega (arith, held-few t (on .0) (process-held on t effects p), process-room on t effects p))))
+      (λ on.
+      by-performed (Resume on) t effects (λ (o : Outcome). P (o .did) (o .effects)) (λ _. none)
+      (λ p.
+      let q = resume-tests on t effects p in
+      some (heldId t (on .0)) (heldCommands t (on .0))
+      (omega (arith, held-few t (on .0) (process-held on t effects q), process-room on t effects q))))
+
+  -- the effects room is as long as before
+  pub effects-length : (r : Request) → length (performed r t effects .effects) ≡ length effects
+  effects-length = by-effects (λ n e. length e ≡ length effects) refl (λ h cs l. over-as-long h cs effects l)
+
+  -- beyond the records that are counted it is as it was
+  pub effects-kept : (r : Request)
+      → drop (performed r t effects .did * effectWords) (performed r t effects .effects) ≡ drop (performed r t effects .did * effectWords) effects
+  effects-kept = by-effects (λ n e. drop (n * effectWords) e ≡ drop (n * effectWords) effects) refl (λ h cs l. over-kept h cs effects)
+
+  -- and the records that are counted lie within it
+  pub effects-fit : (r : Request) → performed r t effects .did * effectWords ≤ length effects
+  effects-fit = by-effects (λ n e. n * effectWords ≤ length effects) (omega arith) (λ h cs l. l)

@@ -1,4 +1,4 @@
--- What the monitor is: for each request its tests in order, and then its effect. Requests that do commands stand in `flow_requests`.
+-- What the monitor is: for each request its tests in order, and then its effect; and setup.
 use Prim.Native.Nat.{ℕ, zero, suc, _+_, _*_}
 use mathlib.Core.Bool.{Bool, true, false, _&&_, not}
 use mathlib.Core.List.{List, [], _∷_, _++_}
@@ -37,16 +37,16 @@ use Rattle.mmio_regions.specs.Table.{regionWords, laid}
 use Rattle.confidential_hart_remote_command.specs.declared.ConfidentialHartRemoteCommand.{ConfidentialHartRemoteCommand}
 use Rattle.confidential_hart_remote_command.specs.Command.{wellFormed}
 use Rattle.confidential_hart_remote_command.specs.Selection.{selects}
-use Rattle.remote_commands.specs.Queue.{maxCommands, queueWords, count, offered}
-use Rattle.hart_lifecycle_state.specs.Lifecycle.{Entry, becomes, refused, start, suspend, stop, wake}
+use Rattle.remote_commands.specs.Queue.{maxCommands, queueWords, count, commands, emptied, offered}
+use Rattle.effects.specs.Effects.{effectWords, effectsOf, shutsDown}
+use Rattle.hart_lifecycle_state.specs.Lifecycle.{poweredOff, Entry, becomes, refused, start, suspend, stop, wake}
 use Rattle.confidential_hart.specs.declared.ConfidentialHart.{ConfidentialHart}
 use Rattle.confidential_hart.specs.Hart.{noOperation, isDummy, isExecutable, isOperation, withOperation, dummy, resetHart, bootHart}
 use Rattle.confidential_hart.specs.Transition.{afterStart, afterSuspend, afterStop, afterWake, afterOff}
-use Rattle.hart_rows.specs.Rows.{hartWords, hartAt, toWords}
-use Rattle.monitor_requests.specs.declared.Setup as declared
+use Rattle.hart_rows.specs.HartRows.{hartWords, hartAt, toWords}
+use Rattle.monitor_requests.specs.declared.Setup.{Setup}
 use Rattle.monitor_requests.specs.declared.Request.{Request}
 use Rattle.monitor_requests.specs.declared.Request.the-variants.{
-  Setup,
   Steal,
   Return,
   Start,
@@ -62,9 +62,14 @@ use Rattle.monitor_requests.specs.declared.Request.the-variants.{
   Add,
   Remove,
   Defined,
+  Broadcast,
+  Process,
+  Resume,
 }
 use Rattle.monitor_requests.specs.declared.Answer.{Answer}
-use Rattle.monitor_requests.specs.declared.Answer.the-variants.{Refused, Done, Mask, State, Flag}
+use Rattle.monitor_requests.specs.declared.Answer.the-variants.{Refused, Done, Mask, State, Flag, Count, Run, PoweredOff, Operation}
+use Rattle.monitor_requests.specs.declared.Reply.{Reply}
+use Rattle.monitor_requests.specs.Answers.{given, values}
 use Rattle.monitor_requests.specs.Tables.{
   Tables,
   tables,
@@ -76,20 +81,43 @@ use Rattle.monitor_requests.specs.Tables.{
   regionCount,
   homeHart,
   hardwareHart,
+  queue,
   regionsOf,
   countsInRange,
   longEnough,
   sound,
 }
 
--- the answer, and the tables afterwards
+-- the answer and how many effect records were written, and the tables and the effects room afterwards
 pub record Outcome : Type 0 where
   pub answer : Answer
+  pub did : ℕ
   pub after : Tables
+  pub effects : List ℕ
 
--- the two together
-abbrev pub outcome : Answer → Tables → Outcome
-outcome answer after = record { answer = answer; after = after }
+-- the four together
+abbrev pub outcome : Answer → ℕ → Tables → List ℕ → Outcome
+outcome answer did after effects = record { answer = answer; did = did; after = after; effects = effects }
+
+-- no command was done
+abbrev pub answering : Answer → Tables → List ℕ → Outcome
+answering answer after effects = outcome answer 0 after effects
+
+-- what an entry that does commands gives, with the tables and the effects room that it leaves
+abbrev pub replied : Reply → Tables → List ℕ → Outcome
+replied a after effects = outcome (a .answer) (a .did) after effects
+
+-- what an entry gives that has this outcome
+abbrev pub replyIn : Outcome → Reply
+replyIn o = record { answer = o .answer; did = o .did }
+
+-- its values: how many effect records were written, and then those of the answer
+abbrev pub replyValues : Reply → List ℕ
+replyValues a = a .did ∷ values (given (a .answer))
+
+-- a refusal before any command was done
+abbrev pub refusedReply : Error → Reply
+refusedReply error = record { answer = Refused error; did = 0 }
 
 -- a test: the error that is given exactly when it holds
 pub record Test : Type 0 where
@@ -106,8 +134,8 @@ judged refusal [] next = next
 judged refusal (x ∷ xs) next = pick (x .when) (refusal (x .error)) (judged refusal xs next)
 
 -- a refusal changes nothing
-abbrev pub refusedOn : Tables → Error → Outcome
-refusedOn t error = outcome (Refused error) t
+abbrev pub refusedOn : Tables → List ℕ → Error → Outcome
+refusedOn t effects error = answering (Refused error) t effects
 
 -- ---- parts of tests
 
@@ -135,6 +163,10 @@ away h t = refuse HartAlreadyRunning (isDummy (homeHart t h))
 abbrev pub tooLarge : ℕ → ℕ → Test
 tooLarge base size = refuse EndTooLarge (ltb maxEnd (base + size))
 
+-- 13: the effects room is under so many records
+abbrev pub noRoom : ℕ → List ℕ → Test
+noRoom records effects = refuse RoomTooShort (ltb (length effects) (records * effectWords))
+
 -- the lifecycle's table refuses
 unfoldable pub refuses : Entry → Bool
 refuses (becomes state) = false
@@ -142,87 +174,90 @@ refuses (refused number) = true
 
 -- ---- tests
 
--- the tests of each request in order, with their numbers above. Setup never gives 12, and every other request gives it first
-unfoldable pub tests : Request → Tables → List Test
--- 18, 13
-tests (Setup s) t =
-    refuse SetupOutOfRange (not (countsInRange (s .harts) (s .hardware) && ltb (s .boot) (s .harts)))
-    ∷ refuse RoomTooShort (not (longEnough t (s .harts) (s .hardware)))
-    ∷ []
--- 12, 14, 15, 1, 2, 3
-tests (Steal hart on) t =
-    unsound t
-    ∷ noHardwareHart (on .0) t
+-- the tests of each request on sound tables in order, with their numbers above
+unfoldable pub tests : Request → Tables → List ℕ → List Test
+-- 14, 15, 1, 2, 3
+tests (Steal hart on) t effects =
+    noHardwareHart (on .0) t
     ∷ refuse HardwareHartBusy (not (isDummy (hardwareHart t (on .0))))
     ∷ noHart (hart .0) t
     ∷ away (hart .0) t
     ∷ refuse HartNotExecutable (not (isExecutable (homeHart t (hart .0))))
     ∷ []
--- 12, 14, 16
-tests (Return on) t =
-    unsound t
-    ∷ noHardwareHart (on .0) t
-    ∷ idle (on .0) t
-    ∷ []
--- 12, 1, 2, 4
-tests (Start hart address opaque) t =
-    unsound t
-    ∷ noHart (hart .0) t
+-- 14, 16
+tests (Return on) t effects = noHardwareHart (on .0) t ∷ idle (on .0) t ∷ []
+-- 1, 2, 4
+tests (Start hart address opaque) t effects =
+    noHart (hart .0) t
     ∷ away (hart .0) t
     ∷ refuse CannotStartNotStoppedHart (refuses (start (homeHart t (hart .0) .lifecycle)))
     ∷ []
--- 12, 14, 16, 5
-tests (Suspend on) t =
-    unsound t
-    ∷ noHardwareHart (on .0) t
+-- 14, 16, 5
+tests (Suspend on) t effects =
+    noHardwareHart (on .0) t
     ∷ idle (on .0) t
     ∷ refuse CannotSuspedNotStartedHart (refuses (suspend (hardwareHart t (on .0) .lifecycle)))
     ∷ []
--- 12, 14, 16, 6
-tests (Stop on) t =
-    unsound t
-    ∷ noHardwareHart (on .0) t
+-- 14, 16, 6
+tests (Stop on) t effects =
+    noHardwareHart (on .0) t
     ∷ idle (on .0) t
     ∷ refuse CannotStopNotStartedHart (refuses (stop (hardwareHart t (on .0) .lifecycle)))
     ∷ []
--- 12, 14, 16, 7
-tests (Wake on address opaque) t =
-    unsound t
-    ∷ noHardwareHart (on .0) t
+-- 14, 16, 7
+tests (Wake on address opaque) t effects =
+    noHardwareHart (on .0) t
     ∷ idle (on .0) t
     ∷ refuse CannotStartNotSuspendedHart (refuses (wake (hardwareHart t (on .0) .lifecycle)))
     ∷ []
--- 12, 14, 16
-tests (Off on) t = unsound t ∷ noHardwareHart (on .0) t ∷ idle (on .0) t ∷ []
--- 12, 19, 14, 16, 17
-tests (Await on kind x y) t =
-    unsound t
-    ∷ refuse UnknownKind (not (isOperation kind))
+-- 14, 16
+tests (Off on) t effects = noHardwareHart (on .0) t ∷ idle (on .0) t ∷ []
+-- 19, 14, 16, 17
+tests (Await on kind x y) t effects =
+    refuse UnknownKind (not (isOperation kind))
     ∷ noHardwareHart (on .0) t
     ∷ idle (on .0) t
     ∷ refuse OperationPending (not (eqb (hardwareHart t (on .0) .operation) noOperation))
     ∷ []
--- 12, 1
-tests (Status hart) t = unsound t ∷ noHart (hart .0) t ∷ []
--- 12
-tests Home t = unsound t ∷ []
--- 12, 19
-tests (Send sender c) t = unsound t ∷ refuse UnknownKind (not (wellFormed c)) ∷ []
--- 12
-tests (Allow bits) t = unsound t ∷ []
--- 12, 11, 9, 10
-tests (Add base size) t =
-    unsound t
-    ∷ tooLarge base size
+-- 1
+tests (Status hart) t effects = noHart (hart .0) t ∷ []
+-- none
+tests Home t effects = []
+-- 19
+tests (Send sender c) t effects = refuse UnknownKind (not (wellFormed c)) ∷ []
+-- none
+tests (Allow bits) t effects = []
+-- 11, 9, 10
+tests (Add base size) t effects =
+    tooLarge base size
     ∷ refuse ReachedMaxNumberOfMmioRegions (leb maxRegions (length (regionsOf t)))
     ∷ refuse OverlappingMmioRegion (anyOverlaps (regionFrom base size) (regionsOf t))
     ∷ []
--- 12, 11
-tests (Remove base size) t = unsound t ∷ tooLarge base size ∷ []
--- 12, 11
-tests (Defined base size) t = unsound t ∷ tooLarge base size ∷ []
+-- 11
+tests (Remove base size) t effects = tooLarge base size ∷ []
+-- 11
+tests (Defined base size) t effects = tooLarge base size ∷ []
+-- 13, 19, 14, 16
+tests (Broadcast on c) t effects =
+    noRoom 1 effects
+    ∷ refuse UnknownKind (not (wellFormed c))
+    ∷ noHardwareHart (on .0) t
+    ∷ idle (on .0) t
+    ∷ []
+-- 13, 14, 16
+tests (Process on) t effects = noRoom maxCommands effects ∷ noHardwareHart (on .0) t ∷ idle (on .0) t ∷ []
+-- 13, 14, 16
+tests (Resume on) t effects = noRoom maxCommands effects ∷ noHardwareHart (on .0) t ∷ idle (on .0) t ∷ []
 
 -- ---- parts of effects
+
+-- the number of the hart that hardware hart k holds
+abbrev pub heldId : Tables → ℕ → ℕ
+heldId t k = hardwareHart t k .id
+
+-- the commands that wait for it
+abbrev pub heldCommands : Tables → ℕ → List ConfidentialHartRemoteCommand
+heldCommands t k = commands (queue t (heldId t k))
 
 -- the tables with another head
 abbrev pub withHead : List ℕ → Tables → Tables
@@ -255,20 +290,6 @@ exchanged h k t =
     tables (t .head) (put hartWords (t .home) h (row hartWords (t .hardware) k)) (put hartWords (t .hardware) k (row hartWords (t .home) h))
     (t .queues)
     (t .regions)
-
--- hart h at setup: the boot hart or one after a reset
-abbrev pub setupHart : declared.Setup → ℕ → ConfidentialHart
-setupHart s h = pick (eqb h (s .boot)) (bootHart h (s .mepc) (s .a1) (s .vsatp) (s .vsstatus)) (resetHart h)
-
--- the tables at setup: n harts at home, m dummies, and all else empty or 0
-abbrev pub fresh : declared.Setup → Tables → Tables
-fresh s t =
-    tables
-    (over (s .harts ∷ s .hardware ∷ 0 ∷ 0 ∷ []) (t .head))
-    (over (rowsOf (λ h. toWords (setupHart s h)) (s .harts)) (t .home))
-    (over (rowsOf (λ k. toWords (dummy k)) (s .hardware)) (t .hardware))
-    (over (replicate (s .harts * queueWords) 0) (t .queues))
-    (over (replicate (maxRegions * regionWords) 0) (t .regions))
 
 -- ---- a broadcast
 
@@ -303,30 +324,150 @@ deliver home sender c (suc left) h mask queues =
 abbrev pub broadcast : ℕ → ConfidentialHartRemoteCommand → Tables → Delivery
 broadcast sender c t = deliver (t .home) sender c (harts t) 0 0 (t .queues)
 
+-- its outcome
+abbrev pub sends : ℕ → ConfidentialHartRemoteCommand → Tables → List ℕ → Outcome
+sends sender c t effects = answering (broadcast sender c t .answer) (withQueues (broadcast sender c t .queues) t) effects
+
+-- ---- doing commands
+
+-- the hardware rows once the hart in row k has done commands: a shutdown request makes it PoweredOff
+unfoldable pub didRows : List ConfidentialHartRemoteCommand → List ℕ → ℕ → List ℕ
+didRows cs hardware k = pick (shutsDown cs) (put hartWords hardware k (toWords (afterOff (hartAt hardware k) .hart))) hardware
+
+-- the tables then
+abbrev pub doing : List ConfidentialHartRemoteCommand → ℕ → Tables → Tables
+doing cs k t = withHardware (didRows cs (t .hardware) k) t
+
+-- an outcome, with the effect records of hart h for the commands that it did over the front of the effects room
+abbrev pub withEffects : ℕ → List ConfidentialHartRemoteCommand → Outcome → Outcome
+withEffects h cs o = outcome (o .answer) (length cs) (o .after) (over (effectsOf h cs) (o .effects))
+
+-- ---- broadcast
+
+-- what sender h does itself: the command, if it is selected
+unfoldable pub ownCommands : ConfidentialHartRemoteCommand → ℕ → List ConfidentialHartRemoteCommand
+ownCommands c h = pick (selects c h) (c ∷ []) []
+
+-- hart h on hardware hart k first does the command if selected; then the broadcast of the tables. What it did stands even if 8 follows
+abbrev pub broadcasts : ConfidentialHartRemoteCommand → ℕ → ℕ → Tables → List ℕ → Outcome
+broadcasts c k h t effects = withEffects h (ownCommands c h) (sends h c (doing (ownCommands c h) k t) effects)
+
+-- ---- process and resume
+
+-- hart h on hardware hart k has done commands, and its queue is empty
+abbrev pub processed : List ConfidentialHartRemoteCommand → ℕ → ℕ → Tables → Tables
+processed cs k h t = withQueues (put queueWords (t .queues) h emptied) (doing cs k t)
+
+-- it did every queued command in order, and their count is given
+abbrev pub processes : List ConfidentialHartRemoteCommand → ℕ → ℕ → Tables → List ℕ → Outcome
+processes cs k h t effects = withEffects h cs (answering (Count (length cs)) (processed cs k h t) effects)
+
+-- what a hart goes on with, and the hardware rows afterwards
+pub record Going : Type 0 where
+  pub answer : Answer
+  pub hardware : List ℕ
+
+-- the two together
+abbrev pub going : Answer → List ℕ → Going
+going answer hardware = record { answer = answer; hardware = hardware }
+
+-- if PoweredOff, the hart in row k answers off and leaves the operation; else it takes the operation and answers it; else run
+unfoldable pub goesOn : List ℕ → ℕ → Going
+goesOn hardware k =
+    pick (eqb (hartAt hardware k .lifecycle) poweredOff) (going PoweredOff hardware)
+    (pick (not (eqb (hartAt hardware k .operation) noOperation))
+    (going (Operation (hartAt hardware k .operation) (hartAt hardware k .x) (hartAt hardware k .y))
+    (put hartWords hardware k (toWords (withOperation noOperation 0 0 (hartAt hardware k)))))
+    (going Run hardware))
+
+-- the answer and the tables then
+abbrev pub resumed : ℕ → Tables → List ℕ → Outcome
+resumed k t effects = answering (goesOn (t .hardware) k .answer) (withHardware (goesOn (t .hardware) k .hardware) t) effects
+
+-- it did the same as a process, and then goes on
+abbrev pub resumes : List ConfidentialHartRemoteCommand → ℕ → ℕ → Tables → List ℕ → Outcome
+resumes cs k h t effects = withEffects h cs (resumed k (processed cs k h t) effects)
+
 -- ---- effects
 
--- the effect of each request, once its tests are passed: its answer, and the tables afterwards
-unfoldable pub effect : Request → Tables → Outcome
-effect (Setup s) t = outcome Done (fresh s t)
-effect (Steal hart on) t = outcome (Mask (allowed t)) (exchanged (hart .0) (on .0) t)
-effect (Return on) t = outcome Done (exchanged (hardwareHart t (on .0) .id) (on .0) t)
-effect (Start hart address opaque) t =
-    outcome Done (withHome (put hartWords (t .home) (hart .0) (toWords (afterStart address opaque (homeHart t (hart .0)) .hart))) t)
-effect (Suspend on) t = outcome Done (withHeld (on .0) (afterSuspend (hardwareHart t (on .0)) .hart) t)
-effect (Stop on) t = outcome Done (withHeld (on .0) (afterStop (hardwareHart t (on .0)) .hart) t)
-effect (Wake on address opaque) t = outcome Done (withHeld (on .0) (afterWake address opaque (hardwareHart t (on .0)) .hart) t)
-effect (Off on) t = outcome Done (withHeld (on .0) (afterOff (hardwareHart t (on .0)) .hart) t)
-effect (Await on kind x y) t = outcome Done (withHeld (on .0) (withOperation kind x y (hardwareHart t (on .0))) t)
-effect (Status hart) t = outcome (State (homeHart t (hart .0) .lifecycle)) t
-effect Home t = outcome (Flag (every (λ h. not (isDummy (homeHart t h))) (harts t))) t
-effect (Send sender c) t = outcome (broadcast sender c t .answer) (withQueues (broadcast sender c t .queues) t)
-effect (Allow bits) t = outcome Done (withHead (set (t .head) allowedWord (bitOr (allowed t) bits)) t)
-effect (Add base size) t = outcome Done (withRegions (regionsOf t ++ (regionFrom base size ∷ [])) t)
-effect (Remove base size) t = outcome Done (withRegions (withRemoved (regionFrom base size) (regionsOf t)) t)
-effect (Defined base size) t = outcome (Flag (anyContains (regionFrom base size) (regionsOf t))) t
+-- the effect of each request, once its tests are passed: its answer, and the tables and the effects room afterwards
+unfoldable pub effect : Request → Tables → List ℕ → Outcome
+effect (Steal hart on) t effects = answering (Mask (allowed t)) (exchanged (hart .0) (on .0) t) effects
+effect (Return on) t effects = answering Done (exchanged (heldId t (on .0)) (on .0) t) effects
+effect (Start hart address opaque) t effects =
+    answering Done (withHome (put hartWords (t .home) (hart .0) (toWords (afterStart address opaque (homeHart t (hart .0)) .hart))) t) effects
+effect (Suspend on) t effects = answering Done (withHeld (on .0) (afterSuspend (hardwareHart t (on .0)) .hart) t) effects
+effect (Stop on) t effects = answering Done (withHeld (on .0) (afterStop (hardwareHart t (on .0)) .hart) t) effects
+effect (Wake on address opaque) t effects = answering Done (withHeld (on .0) (afterWake address opaque (hardwareHart t (on .0)) .hart) t) effects
+effect (Off on) t effects = answering Done (withHeld (on .0) (afterOff (hardwareHart t (on .0)) .hart) t) effects
+effect (Await on kind x y) t effects = answering Done (withHeld (on .0) (withOperation kind x y (hardwareHart t (on .0))) t) effects
+effect (Status hart) t effects = answering (State (homeHart t (hart .0) .lifecycle)) t effects
+effect Home t effects = answering (Flag (every (λ h. not (isDummy (homeHart t h))) (harts t))) t effects
+effect (Send sender c) t effects = sends sender c t effects
+effect (Allow bits) t effects = answering Done (withHead (set (t .head) allowedWord (bitOr (allowed t) bits)) t) effects
+effect (Add base size) t effects = answering Done (withRegions (regionsOf t ++ (regionFrom base size ∷ [])) t) effects
+effect (Remove base size) t effects = answering Done (withRegions (withRemoved (regionFrom base size) (regionsOf t)) t) effects
+effect (Defined base size) t effects = answering (Flag (anyContains (regionFrom base size) (regionsOf t))) t effects
+effect (Broadcast on c) t effects = broadcasts c (on .0) (heldId t (on .0)) t effects
+effect (Process on) t effects = processes (heldCommands t (on .0)) (on .0) (heldId t (on .0)) t effects
+effect (Resume on) t effects = resumes (heldCommands t (on .0)) (on .0) (heldId t (on .0)) t effects
 
 -- ---- the whole
 
--- a request on any tables: its answer, and the tables afterwards
-unfoldable pub performed : Request → Tables → Outcome
-performed r t = judged (refusedOn t) (tests r t) (effect r t)
+-- a request on any tables and any effects room. Tables that are not sound are refused before all else
+unfoldable pub performed : Request → Tables → List ℕ → Outcome
+performed r t effects = judged (refusedOn t effects) (unsound t ∷ tests r t effects) (effect r t effects)
+
+-- ---- requests that do no command: an entry of one is lent no effects room
+
+-- the request does no command
+abbrev pub doesNoCommand : Request → Bool
+doesNoCommand (Steal hart on) = true
+doesNoCommand (Return on) = true
+doesNoCommand (Start hart address opaque) = true
+doesNoCommand (Suspend on) = true
+doesNoCommand (Stop on) = true
+doesNoCommand (Wake on address opaque) = true
+doesNoCommand (Off on) = true
+doesNoCommand (Await on kind x y) = true
+doesNoCommand (Status hart) = true
+doesNoCommand Home = true
+doesNoCommand (Send sender c) = true
+doesNoCommand (Allow bits) = true
+doesNoCommand (Add base size) = true
+doesNoCommand (Remove base size) = true
+doesNoCommand (Defined base size) = true
+doesNoCommand (Broadcast on c) = false
+doesNoCommand (Process on) = false
+doesNoCommand (Resume on) = false
+
+-- the same answer and tables where an effects room is lent: no command was done, and the room is as it was
+abbrev pub withRoom : List ℕ → Outcome → Outcome
+withRoom effects o = answering (o .answer) (o .after) effects
+
+-- ---- setup
+
+-- hart h at setup: the boot hart or one after a reset
+abbrev pub setupHart : Setup → ℕ → ConfidentialHart
+setupHart s h = pick (eqb h (s .boot)) (bootHart h (s .mepc) (s .a1) (s .vsatp) (s .vsstatus)) (resetHart h)
+
+-- the tables at setup: n harts at home, m dummies, and all else empty or 0
+abbrev pub fresh : Setup → Tables → Tables
+fresh s t =
+    tables
+    (over (s .harts ∷ s .hardware ∷ 0 ∷ 0 ∷ []) (t .head))
+    (over (rowsOf (λ h. toWords (setupHart s h)) (s .harts)) (t .home))
+    (over (rowsOf (λ k. toWords (dummy k)) (s .hardware)) (t .hardware))
+    (over (replicate (s .harts * queueWords) 0) (t .queues))
+    (over (replicate (maxRegions * regionWords) 0) (t .regions))
+
+-- 18, 13
+unfoldable pub setupTests : Setup → Tables → List Test
+setupTests s t =
+    refuse SetupOutOfRange (not (countsInRange (s .harts) (s .hardware) && ltb (s .boot) (s .harts)))
+    ∷ refuse RoomTooShort (not (longEnough t (s .harts) (s .hardware)))
+    ∷ []
+
+-- a setup of any tables, sound or not, which is lent no effects room
+unfoldable pub setUp : Setup → Tables → Outcome
+setUp s t = judged (refusedOn t []) (setupTests s t) (answering Done (fresh s t) [])

@@ -8,7 +8,7 @@ use Rattle.table_rows.specs.Rows.{row}
 use Rattle.table_rows.specs.Choice.{pick, every}
 use Rattle.confidential_hart.specs.declared.ConfidentialHart.{ConfidentialHart}
 use Rattle.confidential_hart.specs.Hart.{noVm, theVm, wellFormed}
-use Rattle.hart_rows.specs.Rows.{hartWords, hartAt}
+use Rattle.hart_rows.specs.HartRows.{hartWords, hartAt}
 use Rattle.remote_commands.specs.Queue.{queueWords, queueWellFormed}
 use Rattle.confidential_vm_mmio_region.specs.declared.ConfidentialVmMmioRegion.{ConfidentialVmMmioRegion}
 use Rattle.mmio_regions.specs.Regions.{maxRegions}

@@ -5,15 +5,15 @@ use mathlib.Core.List.{List, [], _∷_}
 use lib.ListN.{take, drop}
 use lib.Dec.{eqb, ltb}
 use Rattle.table_rows.specs.Rows.{row}
-use Rattle.table_rows.specs.Choice.{some}
+use Rattle.table_rows.specs.Choice.{exists}
 use Rattle.mmio_regions.specs.Regions.{maxRegions}
 use Rattle.mmio_regions.specs.Table.{regionWords}
+use Rattle.confidential_hart_remote_command.specs.declared.ConfidentialHartRemoteCommand.{ConfidentialHartRemoteCommand}
 use Rattle.confidential_hart_remote_command.specs.Selection.{selects}
 use Rattle.remote_commands.specs.Queue.{queueWords}
-use Rattle.hart_rows.specs.Rows.{hartWords}
+use Rattle.hart_rows.specs.HartRows.{hartWords}
 use Rattle.monitor_requests.specs.declared.Request.{Request}
 use Rattle.monitor_requests.specs.declared.Request.the-variants.{
-  Setup,
   Steal,
   Return,
   Start,
@@ -29,8 +29,12 @@ use Rattle.monitor_requests.specs.declared.Request.the-variants.{
   Add,
   Remove,
   Defined,
+  Broadcast,
+  Process,
+  Resume,
 }
-use Rattle.monitor_requests.specs.Tables.{Tables, tables, headWords, harts, hardwareHarts, allowed, regionCount, hardwareHart, queue}
+use Rattle.monitor_requests.specs.Requests.{heldId}
+use Rattle.monitor_requests.specs.Tables.{Tables, tables, headWords, harts, hardwareHarts, allowed, regionCount, queue}
 
 -- a place that a request may write: a home row, a hardware row, a queue, the regions with their count, the allowed mask, or n and m
 pub data Place : Type 0 where
@@ -81,12 +85,16 @@ rowOf counts = 0
 abbrev pub same : Place → Place → Bool
 same p q = eqb (kindOf p) (kindOf q) && eqb (rowOf p) (rowOf q)
 
--- the request may write there: setup all; steal and return one home row and one hardware row; start one home row; what is asked of a held
--- hart, its hardware row; a broadcast the queues of the harts that it selects but the sender; add and remove the regions; allow the mask; the rest nothing
+-- the queue of a hart that a command selects, but the sender's
+abbrev pub queuesSent : ℕ → ConfidentialHartRemoteCommand → Tables → Place → Bool
+queuesSent sender c t p = exists (λ h. same p (queueRow h) && selects c h && not (eqb h sender)) (harts t)
+
+-- the request may write there: steal and return one home row and one hardware row; start one home row; suspend, stop, wake, off and await one
+-- hardware row; a send the queues of the harts that it selects but the sender's; a broadcast these and the sender's hardware row; process and
+-- resume one hardware row and its hart's queue; add and remove the regions; allow the mask; the rest nothing
 unfoldable pub writes : Request → Tables → Place → Bool
-writes (Setup s) t p = true
 writes (Steal hart on) t p = same p (homeRow (hart .0)) || same p (hardwareRow (on .0))
-writes (Return on) t p = same p (homeRow (hardwareHart t (on .0) .id)) || same p (hardwareRow (on .0))
+writes (Return on) t p = same p (homeRow (heldId t (on .0))) || same p (hardwareRow (on .0))
 writes (Start hart address opaque) t p = same p (homeRow (hart .0))
 writes (Suspend on) t p = same p (hardwareRow (on .0))
 writes (Stop on) t p = same p (hardwareRow (on .0))
@@ -95,11 +103,14 @@ writes (Off on) t p = same p (hardwareRow (on .0))
 writes (Await on kind x y) t p = same p (hardwareRow (on .0))
 writes (Status hart) t p = false
 writes Home t p = false
-writes (Send sender c) t p = some (λ h. same p (queueRow h) && selects c h && not (eqb h sender)) (harts t)
+writes (Send sender c) t p = queuesSent sender c t p
 writes (Allow bits) t p = same p allowedMask
 writes (Add base size) t p = same p regionTable
 writes (Remove base size) t p = same p regionTable
 writes (Defined base size) t p = false
+writes (Broadcast on c) t p = same p (hardwareRow (on .0)) || queuesSent (heldId t (on .0)) c t p
+writes (Process on) t p = same p (hardwareRow (on .0)) || same p (queueRow (heldId t (on .0)))
+writes (Resume on) t p = same p (hardwareRow (on .0)) || same p (queueRow (heldId t (on .0)))
 
 -- the words past the tables of n harts and m hardware harts
 abbrev pub past : ℕ → ℕ → Tables → Tables

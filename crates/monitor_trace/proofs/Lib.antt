@@ -1,4 +1,3 @@
 -- What belongs to no one function of `monitor_trace`.
-pub mod TraceLaws
 pub mod TurnLaws
 pub mod LineLaws

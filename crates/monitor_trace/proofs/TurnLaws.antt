@@ -12,8 +12,8 @@ use Rattle.table_rows.proofs.PickLaws.{no, by-pick}
 use Rattle.table_rows.proofs.PartLaws.{rest-part}
 use Rattle.monitor_requests.specs.Answers.{given}
 use Rattle.monitor_requests.specs.Tables.{Tables}
-use Rattle.flow_requests.specs.declared.FlowAnswer.{FlowAnswer}
-use Rattle.flow_requests.specs.FlowRequests.{answered, answerIn}
+use Rattle.monitor_requests.specs.declared.Reply.{Reply}
+use Rattle.monitor_requests.specs.Requests.{replied, replyIn}
 use Rattle.trace_requests.specs.declared.Parsed.{Parsed}
 use Rattle.trace_answers.specs.Printed.{Printing, printing, mostPrinted, printedOver}
 use Rattle.trace_answers.proofs.PrintedLaws.{printable-is, printed-most}
@@ -21,9 +21,9 @@ use Rattle.monitor_trace.specs.declared.Turn.{Turn}
 use Rattle.monitor_trace.specs.Trace.{lineOutcome, TurnOutcome, turn, turned}
 
 -- a line that is performed and printed, where there is room
-pub turn-is : (p : Parsed) (ready : Bool) (t : Tables) (effects out : List ℕ) (a : FlowAnswer) (t′ : Tables) (effects′ out′ : List ℕ) (number printed : ℕ)
+pub turn-is : (p : Parsed) (ready : Bool) (t : Tables) (effects out : List ℕ) (a : Reply) (t′ : Tables) (effects′ out′ : List ℕ) (number printed : ℕ)
     → mostPrinted ≤ length out
-    → answered a t′ effects′ ≡ lineOutcome p ready t effects
+    → replied a t′ effects′ ≡ lineOutcome p ready t effects
     → number ≡ given (a .answer) .number
     → printing printed out′ ≡ printedOver a effects′ out
     → turned (record { ready = ready || eqb number done; length = printed }) t′ effects′ out′ ≡ turn p ready t effects out
@@ -32,7 +32,7 @@ turn-is p ready t effects out a t′ effects′ out′ number printed l performs
     no _ (le-ltb _ _ l) (rw (← performs, numbers, ← prints))
 
 -- what is printed has room
-print-fits : (a : FlowAnswer) (effects out : List ℕ) → printedOver a effects out .length ≤ length out
+print-fits : (a : Reply) (effects out : List ℕ) → printedOver a effects out .length ≤ length out
 unfolding printedOver
 print-fits a effects out =
     by-pick (λ (p : Printing). p .length ≤ length out) _ _ _
@@ -44,7 +44,7 @@ pub turn-fits : (p : Parsed) (ready : Bool) (t : Tables) (effects out : List ℕ
 unfolding turn
 turn-fits p ready t effects out =
     by-pick (λ (o : TurnOutcome). o .length ≤ length out) _ _ _ (λ e. omega arith)
-    (λ e. print-fits (answerIn (lineOutcome p ready t effects)) (lineOutcome p ready t effects .effects) out)
+    (λ e. print-fits (replyIn (lineOutcome p ready t effects)) (lineOutcome p ready t effects .effects) out)
 
 -- a line that is answered into the rest of a buffer from place `at` on ends within the buffer
 pub answered-within : (p : Parsed) (ready : Bool) (t : Tables) (effects output : List ℕ) (at : ℕ) {r : Turn} {t′ : Tables} {effects′ out′ : List ℕ}

@@ -4,31 +4,26 @@ use mathlib.Core.Bool.{Bool, _||_}
 use mathlib.Core.List.{List}
 use lib.ListN.{length}
 use lib.Dec.{eqb, ltb}
-use lib.Text.{eqt}
 use Rattle.error.specs.declared.Error.the-variants.{BadLine as badLine}
 use Rattle.error.specs.Error.{done}
 use Rattle.table_rows.specs.Choice.{pick}
 use Rattle.monitor_requests.specs.declared.Answer.{Answer}
 use Rattle.monitor_requests.specs.Answers.{given}
 use Rattle.monitor_requests.specs.Tables.{Tables}
-use Rattle.flow_requests.specs.declared.FlowRequest.{FlowRequest}
-use Rattle.flow_requests.specs.FlowRequests.{FlowOutcome, answerIn, flowRefusedOn, flowPerformed}
+use Rattle.monitor_requests.specs.Requests.{Outcome, replyIn, refusedOn, performed, withRoom, setUp}
 use Rattle.trace_requests.specs.declared.Parsed.{Parsed}
-use Rattle.trace_requests.specs.declared.Parsed.the-variants.{Request, BadLine}
-use Rattle.trace_requests.specs.Lines.{spelling}
+use Rattle.trace_requests.specs.declared.Parsed.the-variants.{Read, BadLine}
+use Rattle.trace_requests.specs.declared.TraceLine.the-variants.{SetUp, Ask}
 use Rattle.trace_answers.specs.Printed.{Printing, mostPrinted, printedOver}
 use Rattle.monitor_trace.specs.declared.Turn.{Turn}
 
 -- ---- what a line does
 
--- the request is a setup
-abbrev pub isSetup : FlowRequest → Bool
-isSetup r = eqt (spelling r .word) "setup"
-
 -- a line that is no request's is 20, and so is any line but a setup before the first accepted setup, when the trace is not ready
-unfoldable pub lineOutcome : Parsed → Bool → Tables → List ℕ → FlowOutcome
-lineOutcome (Request r) ready t effects = pick (ready || isSetup r) (flowPerformed r t effects) (flowRefusedOn t effects badLine)
-lineOutcome BadLine ready t effects = flowRefusedOn t effects badLine
+unfoldable pub lineOutcome : Parsed → Bool → Tables → List ℕ → Outcome
+lineOutcome (Read (SetUp s)) ready t effects = withRoom effects (setUp s t)
+lineOutcome (Read (Ask r)) ready t effects = pick ready (performed r t effects) (refusedOn t effects badLine)
+lineOutcome BadLine ready t effects = refusedOn t effects badLine
 
 -- the trace is ready from the first accepted line on, which is a setup
 abbrev pub readyAfter : Bool → Answer → Bool
@@ -45,7 +40,7 @@ pub record TurnOutcome : Type 0 where
   pub out : List ℕ
 
 -- a request's outcome, printed
-abbrev pub turnOf : Bool → FlowOutcome → Printing → TurnOutcome
+abbrev pub turnOf : Bool → Outcome → Printing → TurnOutcome
 turnOf ready o p = record { ready = ready; length = p .length; after = o .after; effects = o .effects; out = p .out }
 
 -- what a turn gives, with the tables, the effects room and the buffer that it leaves
@@ -57,4 +52,4 @@ unfoldable pub turn : Parsed → Bool → Tables → List ℕ → List ℕ → T
 turn p ready t effects out =
     pick (ltb (length out) mostPrinted) (record { ready = ready; length = 0; after = t; effects = effects; out = out })
     (turnOf (readyAfter ready (lineOutcome p ready t effects .answer)) (lineOutcome p ready t effects)
-    (printedOver (answerIn (lineOutcome p ready t effects)) (lineOutcome p ready t effects .effects) out))
+    (printedOver (replyIn (lineOutcome p ready t effects)) (lineOutcome p ready t effects .effects) out))

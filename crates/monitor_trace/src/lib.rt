@@ -1,14 +1,13 @@
 // A trace, line by line: what each does to the tables, and what is printed for it.
 ghost use mathlib.Core.Path.{_≡_};
-ghost use Rattle.monitor_requests.specs.Tables.{tables};
-ghost use Rattle.flow_requests.specs.FlowRequests.{answered};
-ghost use Rattle.monitor_trace.specs.Trace.{isSetup, lineOutcome, turn, turned};
+ghost use Rattle.monitor_requests.specs.LentTables.{before, after};
+ghost use Rattle.monitor_requests.specs.Requests.{replied};
+ghost use Rattle.monitor_trace.specs.Trace.{lineOutcome, turn, turned};
 use error::Error;
-use flow_requests::FlowAnswer;
-use flow_requests::FlowRequest;
-use monitor_requests::Request;
+use monitor_requests::Reply;
 use trace_answers::MOST_PRINTED;
 use trace_requests::Parsed;
+use trace_requests::TraceLine;
 
 // What a turn gives: whether the trace is ready, which it is from the first accepted setup on, and how many bytes were printed.
 pub struct Turn {
@@ -16,22 +15,9 @@ pub struct Turn {
     pub length: usize,
 }
 
-// Whether a request is a setup.
-fn is_setup(request: FlowRequest) -> bool
-    ensures { λ r. ⌜ r ≡ isSetup request ⌝ }
-{
-    match request {
-        FlowRequest::Plain(plain) => match plain {
-            Request::Setup(_) => true,
-            _ => false,
-        },
-        _ => false,
-    }
-}
-
-// Performs the request of a line. A line that is no request's is refused, and so is any but a setup before the trace is ready.
-fn perform_line(
-    parsed: Parsed,
+// Performs a line of a trace. A request is refused before the trace is ready.
+fn perform_traced(
+    line: TraceLine,
     ready: bool,
     head: &mut [u64],
     home: &mut [u64],
@@ -39,13 +25,17 @@ fn perform_line(
     queues: &mut [u64],
     regions: &mut [u64],
     effects: &mut [u64],
-) -> FlowAnswer
-    ensures { λ r. ⌜ answered r (tables (now (head .exit)) (now (home .exit)) (now (hardware .exit)) (now (queues .exit)) (now (regions .exit))) (now (effects .exit)) ≡ lineOutcome parsed ready (tables (now (head .entry)) (now (home .entry)) (now (hardware .entry)) (now (queues .entry)) (now (regions .entry))) (now (effects .entry)) ⌝ }
+) -> Reply
+    ensures { λ r. ⌜ replied r (after head home hardware queues regions) (now (effects .exit))
+        ≡ lineOutcome (Parsed.Read line) ready (before head home hardware queues regions) (now (effects .entry)) ⌝ }
 {
-    match parsed {
-        Parsed::Request(request) => {
-            let allowed = ready | is_setup(request);
-            if allowed {
+    match line {
+        TraceLine::SetUp(setup) => Reply {
+            answer: confidential_vm_setup::new(setup, head, home, hardware, queues, regions),
+            did: 0,
+        },
+        TraceLine::Ask(request) => {
+            if ready {
                 return perform_request::perform(
                     request,
                     head,
@@ -56,9 +46,37 @@ fn perform_line(
                     effects,
                 );
             }
-            FlowAnswer::refused(Error::BadLine)
+            Reply::refused(Error::BadLine)
         }
-        Parsed::BadLine => FlowAnswer::refused(Error::BadLine),
+    }
+}
+
+// Performs the request of a line. A line that is no request's is refused.
+fn perform_line(
+    parsed: Parsed,
+    ready: bool,
+    head: &mut [u64],
+    home: &mut [u64],
+    hardware: &mut [u64],
+    queues: &mut [u64],
+    regions: &mut [u64],
+    effects: &mut [u64],
+) -> Reply
+    ensures { λ r. ⌜ replied r (after head home hardware queues regions) (now (effects .exit))
+        ≡ lineOutcome parsed ready (before head home hardware queues regions) (now (effects .entry)) ⌝ }
+{
+    match parsed {
+        Parsed::Read(line) => perform_traced(
+            line,
+            ready,
+            head,
+            home,
+            hardware,
+            queues,
+            regions,
+            effects,
+        ),
+        Parsed::BadLine => Reply::refused(Error::BadLine),
     }
 }
 
@@ -75,7 +93,8 @@ pub fn answer_line(
     effects: &mut [u64],
     out: &mut [u8],
 ) -> Turn
-    ensures { λ r. ⌜ turned r (tables (now (head .exit)) (now (home .exit)) (now (hardware .exit)) (now (queues .exit)) (now (regions .exit))) (now (effects .exit)) (now (out .exit)) ≡ turn parsed ready (tables (now (head .entry)) (now (home .entry)) (now (hardware .entry)) (now (queues .entry)) (now (regions .entry))) (now (effects .entry)) (now (out .entry)) ⌝ }
+    ensures { λ r. ⌜ turned r (after head home hardware queues regions) (now (effects .exit)) (now (out .exit))
+        ≡ turn parsed ready (before head home hardware queues regions) (now (effects .entry)) (now (out .entry)) ⌝ }
 {
     if out.len() < MOST_PRINTED {
         return Turn {

@@ -1,2 +1,2 @@
 -- What belongs to no one function of `perform_request`.
-mod LentLaws
+mod ArmLaws

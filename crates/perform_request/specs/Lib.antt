@@ -1,2 +1,2 @@
 -- What the contracts of `perform_request` cite.
-pub mod Lent
+pub mod HardwareAlone

@@ -1,13 +1,12 @@
 // Any request of the monitor on lent tables: the request's own entry performs it.
 ghost use mathlib.Core.Path.{_≡_};
 ghost use mathlib.Core.Bool.{true};
-ghost use Rattle.monitor_requests.specs.Tables.{tables};
-ghost use Rattle.monitor_requests.specs.Requests.{outcome, performed};
-ghost use Rattle.flow_requests.specs.FlowRequests.{answered, flowPerformed};
-ghost use Rattle.perform_request.specs.Lent.{hardwareAlone};
-use flow_requests::FlowAnswer;
-use flow_requests::FlowRequest;
+ghost use Rattle.monitor_requests.specs.LentTables.{before, after};
+ghost use mathlib.Core.List.{[]};
+ghost use Rattle.monitor_requests.specs.Requests.{answering, replied, performed, doesNoCommand};
+ghost use Rattle.perform_request.specs.HardwareAlone.{hardwareAlone};
 use monitor_requests::Answer;
+use monitor_requests::Reply;
 use monitor_requests::Request;
 
 // Performs a request that writes no table but the hardware rows. The last arm is `Home`.
@@ -20,7 +19,8 @@ fn perform_on_hardware(
     regions: &[u64],
 ) -> Answer
     requires { ⌜ hardwareAlone request ≡ true ⌝ }
-    ensures { λ r. ⌜ outcome r (tables (now (head .entry)) (now (home .entry)) (now (hardware .exit)) (now (queues .entry)) (now (regions .entry))) ≡ performed request (tables (now (head .entry)) (now (home .entry)) (now (hardware .entry)) (now (queues .entry)) (now (regions .entry))) ⌝ }
+    ensures { λ r. ⌜ answering r (after head home hardware queues regions) []
+        ≡ performed request (before head home hardware queues regions) [] ⌝ }
 {
     match request {
         Request::Suspend(on) => confidential_flow_lifecycle::suspend_confidential_hart(
@@ -90,7 +90,7 @@ fn perform_on_hardware(
 }
 
 // Performs a request that does no command.
-fn perform_plain(
+fn perform_without_effects(
     request: Request,
     head: &mut [u64],
     home: &mut [u64],
@@ -98,17 +98,11 @@ fn perform_plain(
     queues: &mut [u64],
     regions: &mut [u64],
 ) -> Answer
-    ensures { λ r. ⌜ outcome r (tables (now (head .exit)) (now (home .exit)) (now (hardware .exit)) (now (queues .exit)) (now (regions .exit))) ≡ performed request (tables (now (head .entry)) (now (home .entry)) (now (hardware .entry)) (now (queues .entry)) (now (regions .entry))) ⌝ }
+    requires { ⌜ doesNoCommand request ≡ true ⌝ }
+    ensures { λ r. ⌜ answering r (after head home hardware queues regions) []
+        ≡ performed request (before head home hardware queues regions) [] ⌝ }
 {
     match request {
-        Request::Setup(setup) => confidential_vm_setup::new(
-            setup,
-            head,
-            home,
-            hardware,
-            queues,
-            regions,
-        ),
         Request::Steal(hart, on) => confidential_vm::steal_confidential_hart(
             hart,
             on,
@@ -177,33 +171,29 @@ fn perform_plain(
 
 // Performs any request. One that does no command has no effects.
 pub fn perform(
-    request: FlowRequest,
+    request: Request,
     head: &mut [u64],
     home: &mut [u64],
     hardware: &mut [u64],
     queues: &mut [u64],
     regions: &mut [u64],
     effects: &mut [u64],
-) -> FlowAnswer
-    ensures { λ r. ⌜ answered r (tables (now (head .exit)) (now (home .exit)) (now (hardware .exit)) (now (queues .exit)) (now (regions .exit))) (now (effects .exit)) ≡ flowPerformed request (tables (now (head .entry)) (now (home .entry)) (now (hardware .entry)) (now (queues .entry)) (now (regions .entry))) (now (effects .entry)) ⌝ }
+) -> Reply
+    ensures { λ r. ⌜ replied r (after head home hardware queues regions) (now (effects .exit))
+        ≡ performed request (before head home hardware queues regions) (now (effects .entry)) ⌝ }
 {
     match request {
-        FlowRequest::Plain(plain) => FlowAnswer {
-            answer: perform_plain(plain, head, home, hardware, queues, regions),
-            did: 0,
-        },
-        FlowRequest::Broadcast(on, c) =>
-            confidential_flow_remote_commands::broadcast_remote_command(
-                on,
-                c,
-                head,
-                home,
-                hardware,
-                queues,
-                regions,
-                effects,
-            ),
-        FlowRequest::Process(on) =>
+        Request::Broadcast(on, c) => confidential_flow_remote_commands::broadcast_remote_command(
+            on,
+            c,
+            head,
+            home,
+            hardware,
+            queues,
+            regions,
+            effects,
+        ),
+        Request::Process(on) =>
             confidential_flow_remote_commands::process_confidential_hart_remote_commands(
                 on,
                 head,
@@ -213,7 +203,7 @@ pub fn perform(
                 regions,
                 effects,
             ),
-        FlowRequest::Resume(on) => confidential_flow::resume_confidential_hart_execution(
+        Request::Resume(on) => confidential_flow::resume_confidential_hart_execution(
             on,
             head,
             home,
@@ -222,5 +212,9 @@ pub fn perform(
             regions,
             effects,
         ),
+        _ => Reply {
+            answer: perform_without_effects(request, head, home, hardware, queues, regions),
+            did: 0,
+        },
     }
 }

@@ -12,7 +12,7 @@ use lib.Seq.{getD-drop}
 use lib.Dec.{leb, eqb}
 use borrow.Author.Tests.{le-leb, lt-leb, leb-true, leb-false, eq-eqb, eqb-true, not-true}
 use Rattle.error.specs.Error.{done, reachedMaxNumberOfRemoteCommands}
-use Rattle.table_rows.specs.Choice.{pick, every, allZero, some}
+use Rattle.table_rows.specs.Choice.{pick, every, allZero, exists}
 use Rattle.table_rows.specs.Lists.{upTo, anyOf}
 use Rattle.table_rows.proofs.PickLaws.{yes, no, by-pick, by-test, and-left, and-right, and-both, not-yes}
 use Rattle.table_rows.proofs.EveryLaws.{every-at, every-of, every-more}
@@ -21,8 +21,8 @@ use Rattle.table_rows.proofs.RowLaws.{put-length, row-put-same, row-put-other, 
 use Rattle.table_rows.proofs.ZeroLaws.{zeros-all-zero, all-zero-zeros}
 use Rattle.confidential_hart_remote_command.specs.declared.ConfidentialHartRemoteCommand.{ConfidentialHartRemoteCommand}
 use Rattle.confidential_hart_remote_command.specs.Command.{wellFormed, same, commandWords, fromWords, toWords}
-use Rattle.remote_commands.specs.Queue.{maxCommands, queueWords, count, places, commandAt, commands, queued, distinct, queueWellFormed, pushed, emptied, withOffered, Offer, outcome, offered}
-use Rattle.table_rows.proofs.SomeLaws.{some-of, none-of, some-none, some-at}
+use Rattle.remote_commands.specs.Queue.{maxCommands, queueWords, count, places, commandAt, commands, queued, distinct, queueWellFormed, pushed, emptied, withOffered, Offer, offer, offered}
+use Rattle.table_rows.proofs.ExistsLaws.{exists-of, none-of, exists-none, exists-at}
 use Rattle.confidential_hart_remote_command.proofs.CommandLaws.{same-refl, same-eq}
 
 -- ---- words that are all 0
@@ -70,14 +70,14 @@ queued-any q c = sym (any-up-to (λ d. same d c) (commandAt q) (count q))
 pub queued-member : (q : List ℕ) (c : ConfidentialHartRemoteCommand) → queued q c ≡ true → List·Memᴰ c (commands q)
 unfolding queued commands
 queued-member q c e =
-    let w = some-at (λ i. same (commandAt q i) c) (count q) e in
+    let w = exists-at (λ i. same (commandAt q i) c) (count q) e in
     rw (same-eq (commandAt q (w .0)) c (w .2)) at (up-to-has (commandAt q) (w .0) (count q) (w .1))
 
 pub member-queued : (q : List ℕ) (c : ConfidentialHartRemoteCommand) → List·Memᴰ c (commands q) → queued q c ≡ true
 unfolding queued commands
 member-queued q c m =
     let w = up-to-at (commandAt q) c (count q) m in
-    some-of (λ i. same (commandAt q i) c) (w .0) (count q) (w .1) (rw (← (w .2)) (same-refl c))
+    exists-of (λ i. same (commandAt q i) c) (w .0) (count q) (w .1) (rw (← (w .2)) (same-refl c))
 
 -- ---- what well formed tells
 
@@ -161,33 +161,33 @@ module _ (q : List ℕ) (c : ConfidentialHartRemoteCommand) (long : length q ≡
   unfolding queued distinct
   push-distinct n e =
       rw push-count
-      (every-more (λ j. not (some (λ i. same (commandAt (pushed q c) i) (commandAt (pushed q c) j)) j)) (count q)
+      (every-more (λ j. not (exists (λ i. same (commandAt (pushed q c) i) (commandAt (pushed q c) j)) j)) (count q)
       (every-of _ (count q)
       (λ j l. not-yes _ (none-of (λ i. same (commandAt (pushed q c) i) (commandAt (pushed q c) j)) j
-      (λ i b. push-none i j b l (some-none (λ k. same (commandAt q k) (commandAt q j)) i j b
-      (not-true _ (every-at (λ m. not (some (λ k. same (commandAt q k) (commandAt q m)) m)) j (count q) e l)))))))
+      (λ i b. push-none i j b l (exists-none (λ k. same (commandAt q k) (commandAt q j)) i j b
+      (not-true _ (every-at (λ m. not (exists (λ k. same (commandAt q k) (commandAt q m)) m)) j (count q) e l)))))))
       (not-yes _ (none-of (λ i. same (commandAt (pushed q c) i) (commandAt (pushed q c) (count q))) (count q)
-      (λ i b. rw (push-old i b, push-new) (some-none (λ k. same (commandAt q k) c) i (count q) b n)))))
+      (λ i b. rw (push-old i b, push-new) (exists-none (λ k. same (commandAt q k) c) i (count q) b n)))))
 
 -- ---- an offer, by its three cases
 
 module _ (q : List ℕ) (c : ConfidentialHartRemoteCommand) where
-  pub offer-full : maxCommands ≤ count q → offered q c ≡ outcome reachedMaxNumberOfRemoteCommands q
+  pub offer-full : maxCommands ≤ count q → offered q c ≡ offer reachedMaxNumberOfRemoteCommands q
   unfolding offered
   offer-full l = sym (yes _ (le-leb _ _ l) refl)
 
-  pub offer-duplicate : count q < maxCommands → queued q c ≡ true → offered q c ≡ outcome done q
+  pub offer-duplicate : count q < maxCommands → queued q c ≡ true → offered q c ≡ offer done q
   unfolding offered
   offer-duplicate l e = sym (no _ (lt-leb _ _ l) (yes _ e refl))
 
-  pub offer-new : count q < maxCommands → queued q c ≡ false → offered q c ≡ outcome done (pushed q c)
+  pub offer-new : count q < maxCommands → queued q c ≡ false → offered q c ≡ offer done (pushed q c)
   unfolding offered
   offer-new l e = sym (no _ (lt-leb _ _ l) (no _ e refl))
 
   pub by-offer : (P : Offer → Type 0)
-      → (maxCommands ≤ count q → P (outcome reachedMaxNumberOfRemoteCommands q))
-      → (count q < maxCommands → queued q c ≡ true → P (outcome done q))
-      → (count q < maxCommands → queued q c ≡ false → P (outcome done (pushed q c)))
+      → (maxCommands ≤ count q → P (offer reachedMaxNumberOfRemoteCommands q))
+      → (count q < maxCommands → queued q c ≡ true → P (offer done q))
+      → (count q < maxCommands → queued q c ≡ false → P (offer done (pushed q c)))
       → P (offered q c)
   unfolding offered
   by-offer P full twice new =

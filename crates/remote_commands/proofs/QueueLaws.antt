@@ -16,7 +16,7 @@ use Rattle.table_rows.proofs.EveryLaws.{every-more}
 use Rattle.confidential_hart_remote_command.specs.declared.ConfidentialHartRemoteCommand.{ConfidentialHartRemoteCommand}
 use Rattle.confidential_hart_remote_command.specs.Command.{same}
 use Rattle.remote_commands.specs.Queue.{count, places, commandAt, queued}
-use Rattle.table_rows.proofs.SomeLaws.{some-of}
+use Rattle.table_rows.proofs.ExistsLaws.{exists-of}
 
 -- ---- a row of words past the count, as the checker has it
 
@@ -41,7 +41,7 @@ module _ (q : List ℕ) (c : ConfidentialHartRemoteCommand) (i : ℕ) (x : Confi
 
   pub find-hit : i < count q → r ≡ true → true ≡ queued q c
   unfolding queued
-  find-hit l e = sym (some-of (λ j. same (commandAt q j) c) i (count q) l (turn ∙ e))
+  find-hit l e = sym (exists-of (λ j. same (commandAt q j) c) i (count q) l (turn ∙ e))
 
   pub find-miss : every (λ j. not (same (commandAt q j) c)) i ≡ true → r ≡ false → every (λ j. not (same (commandAt q j) c)) (i + 1) ≡ true
   find-miss p e = every-more (λ j. not (same (commandAt q j) c)) i p (not-yes _ (turn ∙ e))

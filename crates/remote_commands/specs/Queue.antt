@@ -7,7 +7,7 @@ use lib.Dec.{leb}
 use Rattle.error.specs.Error.{done, reachedMaxNumberOfRemoteCommands}
 use Rattle.table_rows.specs.Rows.{row, put}
 use Rattle.table_rows.specs.Lists.{upTo, anyOf}
-use Rattle.table_rows.specs.Choice.{pick, every, allZero, some}
+use Rattle.table_rows.specs.Choice.{pick, every, allZero, exists}
 use Rattle.confidential_hart_remote_command.specs.declared.ConfidentialHartRemoteCommand.{ConfidentialHartRemoteCommand}
 use Rattle.confidential_hart_remote_command.specs.Command.{wellFormed, same, commandWords, fromWords, toWords}
 
@@ -37,11 +37,11 @@ commands q = upTo (commandAt q) (count q)
 
 -- a command that equals c waits
 unfoldable pub queued : List ℕ → ConfidentialHartRemoteCommand → Bool
-queued q c = some (λ i. same (commandAt q i) c) (count q)
+queued q c = exists (λ i. same (commandAt q i) c) (count q)
 
 -- no command waits twice: none equals one before it
 unfoldable pub distinct : List ℕ → Bool
-distinct q = every (λ j. not (some (λ i. same (commandAt q i) (commandAt q j)) j)) (count q)
+distinct q = every (λ j. not (exists (λ i. same (commandAt q i) (commandAt q j)) j)) (count q)
 
 -- there are at most 64, each is well formed, and every place past the last is 0
 unfoldable pub queueWellFormed : List ℕ → Bool
@@ -67,11 +67,11 @@ pub record Offer : Type 0 where
   pub queue : List ℕ
 
 -- the two together
-abbrev pub outcome : ℕ → List ℕ → Offer
-outcome n q = record { number = n; queue = q }
+abbrev pub offer : ℕ → List ℕ → Offer
+offer n q = record { number = n; queue = q }
 
 -- a queue of 64 refuses, even a duplicate; an equal command is not added again; else it goes last
 unfoldable pub offered : List ℕ → ConfidentialHartRemoteCommand → Offer
 offered q c =
-    pick (leb maxCommands (count q)) (outcome reachedMaxNumberOfRemoteCommands q)
-    (pick (queued q c) (outcome done q) (outcome done (pushed q c)))
+    pick (leb maxCommands (count q)) (offer reachedMaxNumberOfRemoteCommands q)
+    (pick (queued q c) (offer done q) (offer done (pushed q c)))

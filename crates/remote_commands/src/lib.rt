@@ -8,7 +8,7 @@ ghost use Prim.Native.Nat.{_≤_, _<_};
 ghost use lib.ListN.{length};
 ghost use Rattle.table_rows.specs.Choice.{every};
 ghost use Rattle.confidential_hart_remote_command.specs.Command.{wellFormed};
-ghost use Rattle.remote_commands.specs.Queue.{queueWords, maxCommands, count, commandAt, queued, queueWellFormed, pushed, emptied, outcome, offered};
+ghost use Rattle.remote_commands.specs.Queue.{queueWords, maxCommands, count, commandAt, queued, queueWellFormed, pushed, emptied, offer, offered};
 use confidential_hart_remote_command::COMMAND_WORDS;
 use confidential_hart_remote_command::ConfidentialHartRemoteCommand;
 
@@ -87,7 +87,7 @@ fn push(queue: &mut [u64], c: ConfidentialHartRemoteCommand)
 // goes last.
 pub fn offer(queue: &mut [u64], c: ConfidentialHartRemoteCommand) -> u64
     requires { ⌜ length (now queue) ≡ queueWords ⌝ }
-    ensures { λ r. ⌜ outcome r (now (queue .exit)) ≡ offered (now (queue .entry)) c ⌝ }
+    ensures { λ r. ⌜ offer r (now (queue .exit)) ≡ offered (now (queue .entry)) c ⌝ }
 {
     let n = queue[0] as usize;
     if MAX_NUMBER_OF_COMMANDS <= n {

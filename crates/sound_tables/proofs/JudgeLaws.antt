@@ -9,7 +9,7 @@ use borrow.Author.Tests.{not-true, not-false, lt-leb, lt-ltb, le-ltb}
 use Rattle.table_rows.specs.Choice.{pick, every}
 use Rattle.table_rows.proofs.PartLaws.{part-row}
 use Rattle.confidential_hart.specs.Hart.{wellFormed}
-use Rattle.hart_rows.specs.Rows.{vmWord, hartWords, fromWords, hartAt}
+use Rattle.hart_rows.specs.HartRows.{vmWord, hartWords, fromWords, hartAt}
 use Rattle.remote_commands.specs.Queue.{queueWellFormed}
 use Rattle.mmio_regions.specs.Table.{regionsSound}
 use Rattle.monitor_requests.specs.Tables.{

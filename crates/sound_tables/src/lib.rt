@@ -4,9 +4,10 @@ ghost use Prim.Native.Nat.{_+_, _*_, _≤_};
 ghost use lib.ListN.{length};
 ghost use Rattle.table_rows.specs.Rows.{row};
 ghost use Rattle.table_rows.specs.Choice.{every};
-ghost use Rattle.hart_rows.specs.Rows.{hartWords};
+ghost use Rattle.hart_rows.specs.HartRows.{hartWords};
 ghost use Rattle.remote_commands.specs.Queue.{queueWords, queueWellFormed};
-ghost use Rattle.monitor_requests.specs.Tables.{tables, maxHarts, maxHardwareHarts, countsInRange, longEnough, rowSound, sound};
+ghost use Rattle.monitor_requests.specs.Tables.{maxHarts, maxHardwareHarts, countsInRange, longEnough, rowSound, sound};
+ghost use Rattle.monitor_requests.specs.LentTables.{before};
 use confidential_hart::NO_VM;
 use confidential_hart::VM;
 use hart_rows::HART_WORDS;
@@ -37,7 +38,7 @@ pub fn are_long_enough(
     regions: &[u64],
 ) -> bool
     requires { ⌜ (n ≤ maxHarts) × (m ≤ maxHardwareHarts) ⌝ }
-    ensures { λ r. ⌜ r ≡ longEnough (tables (now (head .entry)) (now (home .entry)) (now (hardware .entry)) (now (queues .entry)) (now (regions .entry))) n m ⌝ }
+    ensures { λ r. ⌜ r ≡ longEnough (before head home hardware queues regions) n m ⌝ }
 {
     (HEAD_WORDS <= head.len())
         & (n as usize * HART_WORDS <= home.len())
@@ -121,7 +122,7 @@ pub fn are_tables_sound(
     queues: &[u64],
     regions: &[u64],
 ) -> bool
-    ensures { λ r. ⌜ r ≡ sound (tables (now (head .entry)) (now (home .entry)) (now (hardware .entry)) (now (queues .entry)) (now (regions .entry))) ⌝ }
+    ensures { λ r. ⌜ r ≡ sound (before head home hardware queues regions) ⌝ }
 {
     if head.len() < HEAD_WORDS {
         return false;

@@ -7,7 +7,7 @@ use native.Mathlib.Nat.{le-refl}
 use native.Mathlib.Numerals.{add-one}
 use native.Mathlib.Omega.{arith}
 use lib.ListN.{length, length-append}
-use Rattle.table_rows.specs.Choice.{every, some}
+use Rattle.table_rows.specs.Choice.{every, exists}
 use Rattle.table_rows.specs.Lists.{upTo, anyOf, allOf}
 
 module _ {A : Type 0} (f : ℕ → A) where
@@ -48,7 +48,7 @@ either true false = refl
 either false b = refl
 
 module _ {A : Type 0} (p : A → Bool) (f : ℕ → A) where
-  pub any-up-to : (n : ℕ) → anyOf p (upTo f n) ≡ some (λ i. p (f i)) n
+  pub any-up-to : (n : ℕ) → anyOf p (upTo f n) ≡ exists (λ i. p (f i)) n
   unfolding anyOf upTo every
   any-up-to zero = refl
   any-up-to (suc n) =

@@ -20,8 +20,8 @@ every f zero = true
 every f (suc n) = every f n && f n
 
 -- f holds of some number below n: not every one fails it
-abbrev pub some : (ℕ → Bool) → ℕ → Bool
-some f n = not (every (λ i. not (f i)) n)
+abbrev pub exists : (ℕ → Bool) → ℕ → Bool
+exists f n = not (every (λ i. not (f i)) n)
 
 -- each word is 0
 unfoldable pub allZero : List ℕ → Bool

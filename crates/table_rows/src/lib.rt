@@ -29,6 +29,18 @@ pub fn clear(s: &mut [u64])
     }
 }
 
+// Makes each word of `to` that of `from`.
+pub fn copy(from: &[u64], to: &mut [u64])
+    requires { ⌜ length (now to) ≡ length (now from) ⌝ }
+    ensures { λ _. ⌜ now (to .exit) ≡ now (from .entry) ⌝ }
+{
+    let mut i = 0;
+    while i < to.len() {
+        to[i] = from[i];
+        i += 1;
+    }
+}
+
 // Makes each word of row `i` 0.
 pub fn clear_row(rows: &mut [u64], w: usize, i: usize)
     requires { ⌜ i * w + w ≤ length (now rows) ⌝ }

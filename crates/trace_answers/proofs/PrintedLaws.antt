@@ -1,28 +1,31 @@
 -- What is printed: its words, and that it fits in the room for it. Assumes nothing.
 use Prim.Native.Nat.{ℕ, zero, suc, _+_, _*_, _≤_, _<_}
 use mathlib.Core.Path.{_≡_, refl, sym, ap}
-use mathlib.Core.Bool.{Bool, true, false, _&&_}
+use mathlib.Core.Bool.{true, false, _&&_}
 use mathlib.Core.List.{List, [], _∷_, _++_}
 use native.Mathlib.Nat.{zero-mul, suc-mul}
 use native.Mathlib.Numerals.{add-one}
 use native.Mathlib.Omega.{arith}
-use lib.ListN.{length, drop, length-append, length-take}
+use lib.ListN.{length, take, drop, length-append, length-take}
 use lib.Dec.{leb}
-use mir.Val.{boolByte}
 use borrow.Author.Tests.{leb-true, le-leb}
-use Rattle.error.specs.Error.{numberOf}
+use Rattle.error.specs.Error.{done}
 use Rattle.table_rows.specs.Choice.{pick}
 use Rattle.table_rows.specs.Rows.{row, rowsOf}
 use Rattle.table_rows.proofs.PickLaws.{and-left, and-right, and-both}
 use Rattle.remote_commands.specs.Queue.{maxCommands}
 use Rattle.effects.specs.Effects.{effectWords}
 use Rattle.monitor_requests.specs.declared.Answer.{Answer}
-use Rattle.monitor_requests.specs.declared.Answer.the-variants.{Refused, Done, Mask, State, Flag, Count, Run, PoweredOff, Operation}
-use Rattle.flow_requests.specs.declared.FlowAnswer.{FlowAnswer}
-use Rattle.trace_text.specs.Text.{bytes, digits, word, numbers, line, lineEnd, Put, printing}
+use Rattle.monitor_requests.specs.declared.Word.the-variants.{NoWord, Run, Off, Op}
+use Rattle.monitor_requests.specs.Answers.{Given, gives, given, Tells}
+use Rattle.monitor_requests.proofs.AnswerLaws.{by-given}
+use Rattle.monitor_requests.specs.declared.Told.{Told}
+use Rattle.monitor_requests.specs.declared.Reply.{Reply}
+use Rattle.trace_text.specs.Text.{bytes, tab, digits, decimal, word, numbers, line, lineEnd, Put, printing}
 use Rattle.trace_text.proofs.SpelledLaws.{digits-most, numbers-most}
 use Rattle.trace_text.proofs.WriteLaws.{put-none, put-as, put-then, print-put, print-none}
 use Rattle.trace_answers.specs.Printed.{
+  wordText,
   answerLine,
   didLine,
   printed,
@@ -39,42 +42,61 @@ pub word-did : word 40904 ≡ bytes "did"
 unfolding digits pick
 word-did = refl
 
-pub word-run : bytes "0\t" ++ word 182114 ≡ bytes "0\trun"
+pub word-run : tab ∷ word 182114 ≡ wordText Run
 unfolding digits pick
 word-run = refl
 
-pub word-off : bytes "0\t" ++ word 150606 ≡ bytes "0\toff"
+pub word-off : tab ∷ word 150606 ≡ wordText Off
 unfolding digits pick
 word-off = refl
 
-pub word-op : bytes "0\t" ++ word 1516 ≡ bytes "0\top"
+pub word-op : tab ∷ word 1516 ≡ wordText Op
 unfolding digits pick
 word-op = refl
 
--- a truth as a number
-pub flag-word : (flag : Bool) → boolByte flag ≡ pick flag 1 0
-unfolding pick
-flag-word true = refl
-flag-word false = refl
-
 -- ---- room
+
+-- 0 has one digit
+done-digits : length (decimal done) ≡ 1
+unfolding digits pick
+done-digits = refl
 
 -- a line takes its text, and 21 bytes for each number at most
 line-most : (text ns : List ℕ) → length (line text ns) ≤ length text + 21 * length ns
 line-most text ns = omega (arith, length-append text (numbers ns), numbers-most ns)
 
--- an answer's line with its end
-pub answer-most : (a : Answer) → length (answerLine a) + 1 ≤ answerBytes
+-- the text and the numbers of a line, in bytes
+given-length : (g : Given) → length (answerLine g) ≤ length (decimal (g .number)) + length (wordText (g .word)) + 21 * length (g .details)
 unfolding answerLine
-answer-most (Refused e) = omega (arith, digits-most 10 48 20 (numberOf e))
-answer-most Done = omega arith
-answer-most (Mask mask) = omega (arith, line-most (bytes "0") (mask ∷ []))
-answer-most (State state) = omega (arith, line-most (bytes "0") (state ∷ []))
-answer-most (Flag flag) = omega (arith, line-most (bytes "0") (pick flag 1 0 ∷ []))
-answer-most (Count count) = omega (arith, line-most (bytes "0") (count ∷ []))
-answer-most Run = omega arith
-answer-most PoweredOff = omega arith
-answer-most (Operation kind x y) = omega (arith, line-most (bytes "0\top") (kind ∷ x ∷ y ∷ []))
+given-length g = omega (arith, line-most (decimal (g .number) ++ wordText (g .word)) (g .details), length-append (decimal (g .number)) (wordText (g .word)))
+
+-- an answer's line with its end
+pub answer-most : (a : Answer) → length (answerLine (given a)) + 1 ≤ answerBytes
+answer-most =
+    by-given (λ (g : Given). length (answerLine g) + 1 ≤ answerBytes)
+    (λ n. omega (arith, given-length (gives n NoWord []), digits-most 10 48 20 n))
+    (λ value. omega (arith, given-length (gives done NoWord (value ∷ [])), done-digits))
+    (omega (arith, given-length (gives done Run []), done-digits))
+    (omega (arith, given-length (gives done Off []), done-digits))
+    (λ kind x y. omega (arith, given-length (gives done Op (kind ∷ x ∷ y ∷ [])), done-digits))
+
+-- the line is the number, the word and the details that are told, and what is told fits
+pub told-line : {g : Given} {t : Told} → Tells g t → decimal (t .number) ++ wordText (t .word) ++ numbers (take (t .count) (t .details)) ≡ answerLine g
+unfolding answerLine
+told-line tells = ap answerLine (tells .same)
+
+pub told-most : (a : Answer) {t : Told} → Tells (given a) t
+    → length (decimal (t .number)) + length (wordText (t .word)) + length (numbers (take (t .count) (t .details))) + 1 ≤ answerBytes
+told-most a {t} tells =
+    let text = decimal (t .number) ++ wordText (t .word) in
+    let ns = numbers (take (t .count) (t .details)) in
+    omega (
+      arith,
+      answer-most a,
+      ap length (told-line tells),
+      length-append text ns,
+      length-append (decimal (t .number)) (wordText (t .word)),
+    )
 
 -- the line of an effect: its numbers, and all of it
 pub record-most : (effects : List ℕ) (i : ℕ) → length (numbers (row effectWords effects i)) ≤ 147
@@ -112,12 +134,12 @@ dids-next effects i p q = put-as (ap (rowsOf (didLine effects)) (sym (add-one i)
 -- ---- the whole
 
 -- what is printable: the effects room has the records, which are no more than a queue's, and there is room for whatever is printed
-pub record Printable (a : FlowAnswer) (effects out : List ℕ) : Type 0 where
+pub record Printable (a : Reply) (effects out : List ℕ) : Type 0 where
   pub few : a .did ≤ maxCommands
   pub there : a .did * effectWords ≤ length effects
   pub roomy : mostPrinted ≤ length out
 
-pub printable-is : (a : FlowAnswer) (effects out : List ℕ) → printable a effects out ≡ true → Printable a effects out
+pub printable-is : (a : Reply) (effects out : List ℕ) → printable a effects out ≡ true → Printable a effects out
 unfolding printable
 printable-is a effects out e =
     let first = leb (a .did) maxCommands in
@@ -129,11 +151,11 @@ printable-is a effects out e =
       roomy = leb-true mostPrinted (length out) (and-right (first && second) _ e);
     }
 
-pub is-printable : (a : FlowAnswer) (effects out : List ℕ) → Printable a effects out → printable a effects out ≡ true
+pub is-printable : (a : Reply) (effects out : List ℕ) → Printable a effects out → printable a effects out ≡ true
 unfolding printable
 is-printable a effects out p = and-both (and-both (le-leb _ _ (p .few)) (le-leb _ _ (p .there))) (le-leb _ _ (p .roomy))
 
-module _ (a : FlowAnswer) (effects out : List ℕ) where
+module _ (a : Reply) (effects out : List ℕ) where
   -- what is put at the front of the buffer is printed over it, and else nothing
   pub printed-put : {n : ℕ} {after : List ℕ} → printable a effects out ≡ true → Put 0 (printed a effects) out n after
       → printing n after ≡ printedOver a effects out
@@ -149,7 +171,7 @@ module _ (a : FlowAnswer) (effects out : List ℕ) where
   unfolding printed
   printed-some =
       let dids = rowsOf (didLine effects) (a .did) in
-      omega (arith, length-append dids (answerLine (a .answer) ++ (lineEnd ∷ [])), length-append (answerLine (a .answer)) (lineEnd ∷ []))
+      omega (arith, length-append dids (answerLine (given (a .answer)) ++ (lineEnd ∷ [])), length-append (answerLine (given (a .answer))) (lineEnd ∷ []))
 
   pub printed-most : a .did ≤ maxCommands → length (printed a effects) ≤ mostPrinted
   unfolding printed
@@ -159,8 +181,8 @@ module _ (a : FlowAnswer) (effects out : List ℕ) where
         arith,
         dids-most effects (a .did),
         answer-most (a .answer),
-        length-append dids (answerLine (a .answer) ++ (lineEnd ∷ [])),
-        length-append (answerLine (a .answer)) (lineEnd ∷ []),
+        length-append dids (answerLine (given (a .answer)) ++ (lineEnd ∷ [])),
+        length-append (answerLine (given (a .answer))) (lineEnd ∷ []),
       )
 
   -- so a byte or more is printed over the buffer, and no more than the room that is asked for

@@ -1,15 +1,17 @@
-// What a trace prints for an answer: a line for each command that was done, then the number and its data.
+// What a trace prints for an answer: a line for each command that was done, then the number, the word and the details.
 ghost use mathlib.Core.Path.{_≡_};
-ghost use mathlib.Core.List.{[], _∷_, _++_};
+ghost use mathlib.Core.List.{_∷_};
 ghost use Prim.Native.Nat.{_+_, _*_, _≤_};
 ghost use lib.ListN.{length};
 ghost use Rattle.table_rows.specs.Rows.{rowsOf};
 ghost use Rattle.effects.specs.Effects.{effectWords};
-ghost use Rattle.trace_text.specs.Text.{bytes, word, line, Put};
-ghost use Rattle.trace_answers.specs.Printed.{answerLine, didLine, didBytes, answerBytes, printable, printing, printedOver};
+ghost use Rattle.trace_text.specs.Text.{tab, word, Put};
+ghost use Rattle.monitor_requests.specs.Answers.{given};
+ghost use Rattle.trace_answers.specs.Printed.{wordText, answerLine, didLine, didBytes, answerBytes, printable, printing, printedOver};
 use effects::EFFECT_WORDS;
-use flow_requests::FlowAnswer;
 use monitor_requests::Answer;
+use monitor_requests::Reply;
+use monitor_requests::Word;
 use remote_commands::MAX_NUMBER_OF_COMMANDS;
 use trace_text::LINE_END;
 use trace_text::TAB;
@@ -23,9 +25,6 @@ const OFF: u64 = 15_06_06;
 
 const OP: u64 = 15_16;
 
-// The number of what was done, as a digit.
-const ZERO: u8 = 48;
-
 // The most bytes of a line of an effect, of an answer's line, and of all that is printed for one request.
 const DID_BYTES: usize = 151;
 
@@ -33,51 +32,41 @@ const ANSWER_BYTES: usize = 68;
 
 pub const MOST_PRINTED: usize = MAX_NUMBER_OF_COMMANDS * DID_BYTES + ANSWER_BYTES;
 
-// Writes 0 and a number.
-fn put_value(value: u64, at: usize, out: &mut [u8]) -> usize
-    requires { ⌜ at + answerBytes ≤ length (now out) ⌝ }
-    ensures { λ r. ⌜ Put at (line (bytes "0") (value ∷ [])) (now (out .entry)) r (now (out .exit)) ⌝ }
-{
-    let place = trace_text::put_byte(ZERO, at, out);
-    trace_text::put_field(value, place, out)
-}
-
-// Writes 0 and a word.
+// Writes a tab and a word.
 fn put_said(key: u64, at: usize, out: &mut [u8]) -> usize
-    requires { ⌜ at + answerBytes ≤ length (now out) ⌝ }
-    ensures { λ r. ⌜ Put at (bytes "0\t" ++ word key) (now (out .entry)) r (now (out .exit)) ⌝ }
+    requires { ⌜ at + length (tab ∷ word key) ≤ length (now out) ⌝ }
+    ensures { λ r. ⌜ Put at (tab ∷ word key) (now (out .entry)) r (now (out .exit)) ⌝ }
 {
-    let tab = trace_text::put_byte(ZERO, at, out);
-    let word = trace_text::put_byte(TAB, tab, out);
-    trace_text::put_word(key, word, out)
+    let place = trace_text::put_byte(TAB, at, out);
+    trace_text::put_word(key, place, out)
 }
 
-// Writes 0, `op`, the operation's kind and its two numbers.
-fn put_operation(kind: u64, x: u64, y: u64, at: usize, out: &mut [u8]) -> usize
-    requires { ⌜ at + answerBytes ≤ length (now out) ⌝ }
-    ensures { λ r. ⌜ Put at (line (bytes "0\top") (kind ∷ x ∷ y ∷ [])) (now (out .entry)) r (now (out .exit)) ⌝ }
+// Writes the word of an answer after a tab, if there is one.
+fn put_word_of(word: Word, at: usize, out: &mut [u8]) -> usize
+    requires { ⌜ at + length (wordText word) ≤ length (now out) ⌝ }
+    ensures { λ r. ⌜ Put at (wordText word) (now (out .entry)) r (now (out .exit)) ⌝ }
 {
-    let values = [kind, x, y];
-    let place = put_said(OP, at, out);
-    trace_text::put_numbers(&values, place, out)
+    match word {
+        Word::NoWord => at,
+        Word::Run => put_said(RUN, at, out),
+        Word::Off => put_said(OFF, at, out),
+        Word::Op => put_said(OP, at, out),
+    }
 }
 
 // Writes the line of an answer, without its end.
 fn put_answer(answer: Answer, at: usize, out: &mut [u8]) -> usize
     requires { ⌜ at + answerBytes ≤ length (now out) ⌝ }
-    ensures { λ r. ⌜ Put at (answerLine answer) (now (out .entry)) r (now (out .exit)) ⌝ }
+    ensures { λ r. ⌜ Put at (answerLine (given answer)) (now (out .entry)) r (now (out .exit)) ⌝ }
 {
-    match answer {
-        Answer::Refused(e) => trace_text::put_number(e.number(), at, out),
-        Answer::Done => trace_text::put_byte(ZERO, at, out),
-        Answer::Mask(mask) => put_value(mask, at, out),
-        Answer::State(state) => put_value(state, at, out),
-        Answer::Flag(flag) => put_value(flag as u64, at, out),
-        Answer::Count(count) => put_value(count, at, out),
-        Answer::Run => put_said(RUN, at, out),
-        Answer::PoweredOff => put_said(OFF, at, out),
-        Answer::Operation(kind, x, y) => put_operation(kind, x, y, at, out),
-    }
+    let told = answer.told();
+    let number = told.number;
+    let word = told.word;
+    let count = told.count;
+    let details = told.details;
+    let named = trace_text::put_number(number, at, out);
+    let said = put_word_of(word, named, out);
+    trace_text::put_numbers(&details[..count], said, out)
 }
 
 // Writes the line of effect record `i`.
@@ -107,7 +96,7 @@ fn put_all_did(effects: &[u64], did: usize, out: &mut [u8]) -> usize
 }
 
 // Whether the effects are there, and there is room for whatever is printed.
-fn is_printable(answer: FlowAnswer, effects: &[u64], out: &[u8]) -> bool
+fn is_printable(answer: Reply, effects: &[u64], out: &[u8]) -> bool
     ensures { λ r. ⌜ r ≡ printable answer (now (effects .entry)) (now (out .entry)) ⌝ }
 {
     let did = answer.did as usize;
@@ -119,7 +108,7 @@ fn is_printable(answer: FlowAnswer, effects: &[u64], out: &[u8]) -> bool
 
 // Prints an answer over the front of `out`, and gives how many bytes that are: none where there is too little room, or the records are not there or
 // more than 64.
-pub fn print(answer: FlowAnswer, effects: &[u64], out: &mut [u8]) -> usize
+pub fn print(answer: Reply, effects: &[u64], out: &mut [u8]) -> usize
     ensures { λ r. ⌜ printing r (now (out .exit)) ≡ printedOver answer (now (effects .entry)) (now (out .entry)) ⌝ }
 {
     let unprintable = !is_printable(answer, effects, out);

@@ -10,7 +10,7 @@ fn rewrite(parsed: Parsed, out: &mut [u8]) -> usize
     ensures { λ r. ⌜ printing r (now (out .exit)) ≡ rewritten parsed (now (out .entry)) ⌝ }
 {
     match parsed {
-        Parsed::Request(request) => trace_rendering::render(request, out),
+        Parsed::Read(request) => trace_rendering::render(request, out),
         Parsed::BadLine => 0,
     }
 }

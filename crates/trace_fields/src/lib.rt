@@ -127,7 +127,8 @@ pub fn read(line: Line, text: &[u8], fields: &mut [u64]) -> Line
 
 // Ends a line: its last field goes to its place. Gives how many fields the line has, which is 0 for a line in no form.
 pub fn end(line: Line, fields: &mut [u64]) -> usize
-    ensures { λ r. ⌜ (r ≡ fieldCount (reading line (now (fields .entry)))) × (now (fields .exit) ≡ closed (reading line (now (fields .entry))) .fields) ⌝ }
+    ensures { λ r. ⌜ (r ≡ fieldCount (reading line (now (fields .entry))))
+        × (now (fields .exit) ≡ closed (reading line (now (fields .entry))) .fields) ⌝ }
 {
     let ended = close(line, fields);
     ended.count

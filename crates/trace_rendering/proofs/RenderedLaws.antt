@@ -6,19 +6,19 @@ use mathlib.Core.List.{List}
 use native.Mathlib.Omega.{arith}
 use lib.ListN.{length}
 use borrow.Author.Tests.{le-leb, lt-leb}
-use Rattle.flow_requests.specs.declared.FlowRequest.{FlowRequest}
 use Rattle.trace_text.specs.Text.{word, numbers, line, Put, printing}
 use Rattle.trace_text.proofs.SpelledLaws.{digits-short, numbers-most}
 use Rattle.trace_text.proofs.WriteLaws.{put-as, print-put, print-none}
+use Rattle.trace_requests.specs.declared.TraceLine.{TraceLine}
 use Rattle.trace_requests.specs.declared.Parsed.{Parsed}
-use Rattle.trace_requests.specs.declared.Parsed.the-variants.{Request}
+use Rattle.trace_requests.specs.declared.Parsed.the-variants.{Read}
 use Rattle.trace_requests.specs.Lines.{spelling, lineOf, fit, Reads}
 use Rattle.trace_requests.specs.FieldRequests.{key}
 use Rattle.trace_requests.proofs.LineLaws.{key-word}
 use Rattle.trace_rendering.specs.Rendered.{mostRendered, renderedOver}
 
 -- what is put of the case that a request is: its key's word and its numbers
-pub in-case : {request case : FlowRequest} {out after : List ℕ} {n : ℕ} → request ≡ case
+pub in-case : {request case : TraceLine} {out after : List ℕ} {n : ℕ} → request ≡ case
     → Put 0 (line (word (key case)) (spelling case .numbers)) out n after
     → Put 0 (lineOf request) out n after
 in-case {request} {case} is p =
@@ -34,11 +34,11 @@ line-most w ns short few = omega (arith, word-most w short, numbers-most ns)
 -- ---- the whole
 
 -- a line that is rendered is read as its request
-pub read-back : (r : FlowRequest) (p : Parsed) → fit (spelling r .numbers) ≡ true → Reads (lineOf r) p → p ≡ Request r
+pub read-back : (r : TraceLine) (p : Parsed) → fit (spelling r .numbers) ≡ true → Reads (lineOf r) p → p ≡ Read r
 read-back r p fits reads = reads r .1 (fits, refl)
 
 -- the line of a request that was put at the front is rendered, and else nothing
-module _ (r : FlowRequest) (out : List ℕ) where
+module _ (r : TraceLine) (out : List ℕ) where
   pub line-put : {n : ℕ} {after : List ℕ} → mostRendered ≤ length out → Put 0 (lineOf r) out n after → printing n after ≡ renderedOver r out
   unfolding renderedOver
   line-put l p = print-put (lineOf r) out (le-leb mostRendered (length out) l) p

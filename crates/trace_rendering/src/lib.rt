@@ -8,9 +8,9 @@ ghost use Rattle.trace_text.specs.Text.{word, line, Put, printing};
 ghost use Rattle.trace_requests.specs.Lines.{lineOf};
 ghost use Rattle.trace_rendering.specs.Rendered.{mostRendered, renderedOver};
 use confidential_hart_remote_command::ConfidentialHartRemoteCommand;
-use flow_requests::FlowRequest;
 use monitor_requests::Request;
 use monitor_requests::Setup;
+use trace_requests::TraceLine;
 
 // The most bytes of a line without its end.
 pub const MOST_RENDERED: usize = 156;
@@ -52,7 +52,7 @@ fn put_command(key: u64, first: u64, c: ConfidentialHartRemoteCommand, out: &mut
 // Writes the line of a setup.
 fn put_setup(s: Setup, out: &mut [u8]) -> usize
     requires { ⌜ mostRendered ≤ length (now out) ⌝ }
-    ensures { λ r. ⌜ Put 0 (lineOf (FlowRequest.Plain (Request.Setup s))) (now (out .entry)) r (now (out .exit)) ⌝ }
+    ensures { λ r. ⌜ Put 0 (lineOf (TraceLine.SetUp s)) (now (out .entry)) r (now (out .exit)) ⌝ }
 {
     let numbers = [
         s.harts,
@@ -66,13 +66,12 @@ fn put_setup(s: Setup, out: &mut [u8]) -> usize
     put_line(trace_requests::SETUP, &numbers, out)
 }
 
-// Writes the line of a request that does no command.
-fn put_plain(request: Request, out: &mut [u8]) -> usize
+// Writes the line of a request.
+fn put_request(request: Request, out: &mut [u8]) -> usize
     requires { ⌜ mostRendered ≤ length (now out) ⌝ }
-    ensures { λ r. ⌜ Put 0 (lineOf (FlowRequest.Plain request)) (now (out .entry)) r (now (out .exit)) ⌝ }
+    ensures { λ r. ⌜ Put 0 (lineOf (TraceLine.Ask request)) (now (out .entry)) r (now (out .exit)) ⌝ }
 {
     match request {
-        Request::Setup(s) => put_setup(s, out),
         Request::Steal(hart, on) => put_two(trace_requests::STEAL, hart.0, on.0, out),
         Request::Return(on) => put_one(trace_requests::RETURN, on.0, out),
         Request::Start(hart, address, opaque) => put_line(
@@ -96,28 +95,29 @@ fn put_plain(request: Request, out: &mut [u8]) -> usize
         Request::Add(base, size) => put_two(trace_requests::ADD, base, size, out),
         Request::Remove(base, size) => put_two(trace_requests::REMOVE, base, size, out),
         Request::Defined(base, size) => put_two(trace_requests::DEFINED, base, size, out),
+        Request::Broadcast(on, c) => put_command(trace_requests::BROADCAST, on.0, c, out),
+        Request::Process(on) => put_one(trace_requests::PROCESS, on.0, out),
+        Request::Resume(on) => put_one(trace_requests::RESUME, on.0, out),
     }
 }
 
-// Writes the line of a request.
-fn put_request(request: FlowRequest, out: &mut [u8]) -> usize
+// Writes a line of a trace.
+fn put_trace_line(line: TraceLine, out: &mut [u8]) -> usize
     requires { ⌜ mostRendered ≤ length (now out) ⌝ }
-    ensures { λ r. ⌜ Put 0 (lineOf request) (now (out .entry)) r (now (out .exit)) ⌝ }
+    ensures { λ r. ⌜ Put 0 (lineOf line) (now (out .entry)) r (now (out .exit)) ⌝ }
 {
-    match request {
-        FlowRequest::Plain(r) => put_plain(r, out),
-        FlowRequest::Broadcast(on, c) => put_command(trace_requests::BROADCAST, on.0, c, out),
-        FlowRequest::Process(on) => put_one(trace_requests::PROCESS, on.0, out),
-        FlowRequest::Resume(on) => put_one(trace_requests::RESUME, on.0, out),
+    match line {
+        TraceLine::SetUp(s) => put_setup(s, out),
+        TraceLine::Ask(r) => put_request(r, out),
     }
 }
 
-// Writes the line of a request over the front of `out`, without its end, and gives how many bytes that are: none where there is too little room.
-pub fn render(request: FlowRequest, out: &mut [u8]) -> usize
-    ensures { λ r. ⌜ printing r (now (out .exit)) ≡ renderedOver request (now (out .entry)) ⌝ }
+// Writes a line of a trace over the front of `out`, without its end, and gives how many bytes that are: none where there is too little room.
+pub fn render(line: TraceLine, out: &mut [u8]) -> usize
+    ensures { λ r. ⌜ printing r (now (out .exit)) ≡ renderedOver line (now (out .entry)) ⌝ }
 {
     if out.len() < MOST_RENDERED {
         return 0;
     }
-    put_request(request, out)
+    put_trace_line(line, out)
 }

@@ -1,5 +1,5 @@
 -- Fields are read as the request whose fields they are. Assumes nothing.
-use Prim.Native.Nat.{ℕ}
+use Prim.Native.Nat.{ℕ, _≤_}
 use mathlib.Core.Path.{_≡_, refl, sym, ap, ap₂, subst, _∙_}
 use mathlib.Core.List.{List, [], _∷_}
 use native.Mathlib.Omega.{arith}
@@ -10,76 +10,68 @@ use Rattle.table_rows.specs.Choice.{pick}
 use Rattle.table_rows.specs.Rows.{words}
 use Rattle.table_rows.proofs.PickLaws.{by-pick, yes, no, tests}
 use Rattle.table_rows.proofs.RowLaws.{words-all}
-use Rattle.monitor_requests.specs.declared.Request.the-variants.{
-  Setup,
-  Steal,
-  Return,
-  Start,
-  Suspend,
-  Stop,
-  Wake,
-  Off,
-  Await,
-  Status,
-  Home,
-  Send,
-  Allow,
-  Add,
-  Remove,
-  Defined,
-}
-use Rattle.flow_requests.specs.declared.FlowRequest.{FlowRequest}
-use Rattle.flow_requests.specs.declared.FlowRequest.the-variants.{Plain, Broadcast, Process, Resume}
-use Rattle.trace_fields.specs.Fields.{Reading, closed, fieldCount, fieldsIn}
+use Rattle.monitor_requests.specs.declared.Request.the-variants.{Steal, Return, Start, Suspend, Stop, Wake, Off, Await, Status, Home, Send, Allow, Add, Remove, Defined, Broadcast, Process, Resume}
+use Rattle.trace_text.specs.Text.{bytes, digits, word}
+use Rattle.trace_fields.specs.Fields.{start, more, Reading, reading, closed, fed, readOn, fieldCount, fieldsIn}
+use Rattle.trace_fields.proofs.ReadLaws.{got}
+use Rattle.trace_requests.specs.declared.TraceLine.{TraceLine}
+use Rattle.trace_requests.specs.declared.TraceLine.the-variants.{SetUp, Ask}
 use Rattle.trace_requests.specs.declared.Parsed.{Parsed}
-use Rattle.trace_requests.specs.declared.Parsed.the-variants.{Request, BadLine}
+use Rattle.trace_requests.specs.declared.Parsed.the-variants.{Read, BadLine}
 use Rattle.trace_requests.specs.Lines.{spelling}
-use Rattle.trace_requests.specs.FieldRequests.{key, fieldsOf, Tells, first, ofNone, ofOne, ofTwo, ofThree, ofFour, ofSeven, requestOf}
+use Rattle.trace_requests.specs.FieldRequests.{key, fieldsOf, Tells, maxFields, first, ofNone, ofOne, ofTwo, ofThree, ofFour, ofSeven, requestOf}
 
--- ---- the fields of each request give it
+-- ---- setup and each request
 
-request-back : (r : FlowRequest) → requestOf (fieldsOf r) ≡ Request r
-unfolding spelling pick requestOf ofNone ofOne ofTwo ofThree ofFour ofSeven
-request-back (Plain (Setup s)) = refl
-request-back (Plain (Steal hart on)) = refl
-request-back (Plain (Return on)) = refl
-request-back (Plain (Start hart address opaque)) = refl
-request-back (Plain (Suspend on)) = refl
-request-back (Plain (Stop on)) = refl
-request-back (Plain (Wake on address opaque)) = refl
-request-back (Plain (Off on)) = refl
-request-back (Plain (Status hart)) = refl
-request-back (Plain (Await on kind x y)) = refl
-request-back (Process on) = refl
-request-back (Resume on) = refl
-request-back (Broadcast on c) = refl
-request-back (Plain (Send sender c)) = refl
-request-back (Plain (Allow bits)) = refl
-request-back (Plain (Add base size)) = refl
-request-back (Plain (Remove base size)) = refl
-request-back (Plain (Defined base size)) = refl
-request-back (Plain Home) = refl
+-- its fields give it, its word is spelled as its number says and is read to that number, and its line has few enough fields
+pub record Fair (r : TraceLine) : Type 0 where
+  pub given-back : requestOf (fieldsOf r) ≡ Read r
+  pub word-own : word (key r) ≡ bytes (spelling r .word)
+  pub word-read : (room : List ℕ) → readOn (reading start room) (bytes (spelling r .word)) ≡ reading (got 0 (key r)) room
+  pub few : length (fieldsOf r) ≤ maxFields
+
+pub fair : (r : TraceLine) → Fair r
+unfolding spelling digits pick more fed requestOf ofNone ofOne ofTwo ofThree ofFour ofSeven
+fair (SetUp s) = record { given-back = refl; word-own = refl; word-read = λ room. refl; few = omega arith }
+fair (Ask (Steal hart on)) = record { given-back = refl; word-own = refl; word-read = λ room. refl; few = omega arith }
+fair (Ask (Return on)) = record { given-back = refl; word-own = refl; word-read = λ room. refl; few = omega arith }
+fair (Ask (Start hart address opaque)) = record { given-back = refl; word-own = refl; word-read = λ room. refl; few = omega arith }
+fair (Ask (Suspend on)) = record { given-back = refl; word-own = refl; word-read = λ room. refl; few = omega arith }
+fair (Ask (Stop on)) = record { given-back = refl; word-own = refl; word-read = λ room. refl; few = omega arith }
+fair (Ask (Wake on address opaque)) = record { given-back = refl; word-own = refl; word-read = λ room. refl; few = omega arith }
+fair (Ask (Off on)) = record { given-back = refl; word-own = refl; word-read = λ room. refl; few = omega arith }
+fair (Ask (Status hart)) = record { given-back = refl; word-own = refl; word-read = λ room. refl; few = omega arith }
+fair (Ask (Await on kind x y)) = record { given-back = refl; word-own = refl; word-read = λ room. refl; few = omega arith }
+fair (Ask (Process on)) = record { given-back = refl; word-own = refl; word-read = λ room. refl; few = omega arith }
+fair (Ask (Resume on)) = record { given-back = refl; word-own = refl; word-read = λ room. refl; few = omega arith }
+fair (Ask (Broadcast on c)) = record { given-back = refl; word-own = refl; word-read = λ room. refl; few = omega arith }
+fair (Ask (Send sender c)) = record { given-back = refl; word-own = refl; word-read = λ room. refl; few = omega arith }
+fair (Ask (Allow bits)) = record { given-back = refl; word-own = refl; word-read = λ room. refl; few = omega arith }
+fair (Ask (Add base size)) = record { given-back = refl; word-own = refl; word-read = λ room. refl; few = omega arith }
+fair (Ask (Remove base size)) = record { given-back = refl; word-own = refl; word-read = λ room. refl; few = omega arith }
+fair (Ask (Defined base size)) = record { given-back = refl; word-own = refl; word-read = λ room. refl; few = omega arith }
+fair (Ask Home) = record { given-back = refl; word-own = refl; word-read = λ room. refl; few = omega arith }
 
 -- ---- fields that give a request are its fields
 
 abbrev Told : List ℕ → Parsed → Type 0
-Told xs p = (r : FlowRequest) → p ≡ Request r → xs ≡ fieldsOf r
+Told xs p = (r : TraceLine) → p ≡ Read r → xs ≡ fieldsOf r
 
 told-bad : (xs : List ℕ) → Told xs BadLine
 told-bad xs r e = let z : _≡_ {A = ℕ} 0 1 = cc in absurd (omega arith)
 
-told-here : (xs : List ℕ) (r : FlowRequest) → xs ≡ fieldsOf r → Told xs (Request r)
+told-here : (xs : List ℕ) (r : TraceLine) → xs ≡ fieldsOf r → Told xs (Read r)
 told-here xs r h s e = let same : r ≡ s = cc in h ∙ ap fieldsOf same
 
 -- requests that all have these numbers
-abbrev Alike : List ℕ → List FlowRequest → Type 0
+abbrev Alike : List ℕ → List TraceLine → Type 0
 Alike ns [] = Unit {0}
 Alike ns (r ∷ rs) = (ns ≡ spelling r .numbers) × Alike ns rs
 
-told-first : (w : ℕ) (ns : List ℕ) (rs : List FlowRequest) → Alike ns rs → Told (w ∷ ns) (first w rs)
+told-first : (w : ℕ) (ns : List ℕ) (rs : List TraceLine) → Alike ns rs → Told (w ∷ ns) (first w rs)
 told-first w ns [] alike = told-bad (w ∷ ns)
 told-first w ns (r ∷ rs) alike =
-    by-pick (Told (w ∷ ns)) (eqb w (key r)) (Request r) (first w rs)
+    by-pick (Told (w ∷ ns)) (eqb w (key r)) (Read r) (first w rs)
     (λ e. told-here (w ∷ ns) r (ap₂ (λ (k : ℕ) (l : List ℕ). k ∷ l) (eqb-true w (key r) e) (alike .0)))
     (λ e. told-first w ns rs (alike .1))
 
@@ -99,7 +91,7 @@ told-all (w ∷ a ∷ b ∷ c ∷ d ∷ e ∷ f ∷ g ∷ h ∷ more) = told-bad
 
 -- both
 pub tells : (xs : List ℕ) → Tells xs (requestOf xs)
-tells xs r = (told-all xs r, λ e. ap requestOf e ∙ request-back r)
+tells xs r = (told-all xs r, λ e. ap requestOf e ∙ fair r .given-back)
 
 -- of a part of the room where fields stand
 pub tells-part : {n : ℕ} {fields : List ℕ} {p : Parsed} (x : Reading) → n ≡ fieldCount x → fields ≡ closed x .fields

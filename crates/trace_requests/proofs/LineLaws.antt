@@ -1,95 +1,45 @@
 -- A text is read as the request whose line it is, and as no other. Assumes nothing.
 use Prim.Native.Nat.{ℕ, _≤_}
 use mathlib.Core.Path.{_≡_, refl, sym, ap, subst, _∙_}
-use mathlib.Core.List.{List, _∷_}
+use mathlib.Core.List.{List}
 use native.Mathlib.Omega.{arith}
 use lib.ListN.{length, replicate}
-use Rattle.table_rows.specs.Choice.{pick}
 use Rattle.table_rows.specs.Lists.{allOf}
 use Rattle.table_rows.proofs.PickLaws.{and-right}
-use Rattle.monitor_requests.specs.declared.Request.the-variants.{
-  Setup,
-  Steal,
-  Return,
-  Start,
-  Suspend,
-  Stop,
-  Wake,
-  Off,
-  Await,
-  Status,
-  Home,
-  Send,
-  Allow,
-  Add,
-  Remove,
-  Defined,
-}
-use Rattle.flow_requests.specs.declared.FlowRequest.{FlowRequest}
-use Rattle.flow_requests.specs.declared.FlowRequest.the-variants.{Plain, Broadcast, Process, Resume}
-use Rattle.trace_text.specs.Text.{bytes, digits, word, line}
+use Rattle.trace_text.specs.Text.{bytes, word, line}
 use Rattle.trace_fields.specs.declared.Line.{Line}
-use Rattle.trace_fields.specs.Fields.{start, more, Reading, reading, fed, readOn, fieldsIn}
-use Rattle.trace_fields.proofs.ReadLaws.{got}
+use Rattle.trace_fields.specs.Fields.{start, Reading, reading, readOn, fieldsIn}
 use Rattle.trace_fields.proofs.SoundLaws.{low64, sound}
 use Rattle.trace_fields.proofs.CompleteLaws.{complete}
+use Rattle.trace_requests.specs.declared.TraceLine.{TraceLine}
 use Rattle.trace_requests.specs.declared.Parsed.{Parsed}
-use Rattle.trace_requests.specs.declared.Parsed.the-variants.{Request, BadLine}
-use Rattle.trace_requests.specs.Lines.{Spelling, spelling, Renders, Reads}
-use Rattle.trace_requests.specs.FieldRequests.{keyFrom, key, fieldsOf, Tells, maxFields, requestOf}
-use Rattle.trace_requests.proofs.FieldRequestLaws.{tells}
+use Rattle.trace_requests.specs.declared.Parsed.the-variants.{Read, BadLine}
+use Rattle.trace_requests.specs.Lines.{spelling, Renders, Reads}
+use Rattle.trace_requests.specs.FieldRequests.{key, fieldsOf, Tells, maxFields, requestOf}
+use Rattle.trace_requests.proofs.FieldRequestLaws.{fair, tells}
 
 -- ---- the word of each request
 
--- it is spelled as its number says, is read to that number, and its line has few enough fields
-abbrev Fair : Spelling → Type 0
-Fair s =
-    (word (keyFrom 0 (bytes (s .word))) ≡ bytes (s .word))
-    × ((room : List ℕ) → readOn (reading start room) (bytes (s .word)) ≡ reading (got 0 (keyFrom 0 (bytes (s .word)))) room)
-    × (length (0 ∷ s .numbers) ≤ maxFields)
-
-fair : (r : FlowRequest) → Fair (spelling r)
-unfolding spelling digits pick more fed
-fair (Plain (Setup s)) = (refl, λ room. refl, omega arith)
-fair (Plain (Steal hart on)) = (refl, λ room. refl, omega arith)
-fair (Plain (Return on)) = (refl, λ room. refl, omega arith)
-fair (Plain (Start hart address opaque)) = (refl, λ room. refl, omega arith)
-fair (Plain (Suspend on)) = (refl, λ room. refl, omega arith)
-fair (Plain (Stop on)) = (refl, λ room. refl, omega arith)
-fair (Plain (Wake on address opaque)) = (refl, λ room. refl, omega arith)
-fair (Plain (Off on)) = (refl, λ room. refl, omega arith)
-fair (Plain (Status hart)) = (refl, λ room. refl, omega arith)
-fair (Plain (Await on kind x y)) = (refl, λ room. refl, omega arith)
-fair (Process on) = (refl, λ room. refl, omega arith)
-fair (Resume on) = (refl, λ room. refl, omega arith)
-fair (Broadcast on c) = (refl, λ room. refl, omega arith)
-fair (Plain (Send sender c)) = (refl, λ room. refl, omega arith)
-fair (Plain (Allow bits)) = (refl, λ room. refl, omega arith)
-fair (Plain (Add base size)) = (refl, λ room. refl, omega arith)
-fair (Plain (Remove base size)) = (refl, λ room. refl, omega arith)
-fair (Plain (Defined base size)) = (refl, λ room. refl, omega arith)
-fair (Plain Home) = (refl, λ room. refl, omega arith)
-
 -- so the word of its number is its own
-pub key-word : (r : FlowRequest) → word (key r) ≡ bytes (spelling r .word)
-key-word r = fair r .0
+pub key-word : (r : TraceLine) → word (key r) ≡ bytes (spelling r .word)
+key-word r = fair r .word-own
 
 -- ---- a line and its fields
 
 module _ (room : List ℕ) (long : maxFields ≤ length room) (text : List ℕ) where
-  fields-line : (r : FlowRequest) → fieldsIn (readOn (reading start room) text) ≡ fieldsOf r → Renders text r
+  fields-line : (r : TraceLine) → fieldsIn (readOn (reading start room) text) ≡ fieldsOf r → Renders text r
   unfolding allOf
   fields-line r e =
       let ns = spelling r .numbers in
       let s = sound room text (key r) ns e in
-      (and-right (low64 (key r)) (allOf low64 ns) (s .1), s .0 ∙ ap (λ (w : List ℕ). line w ns) (fair r .0))
+      (and-right (low64 (key r)) (allOf low64 ns) (s .1), s .0 ∙ ap (λ (w : List ℕ). line w ns) (fair r .word-own))
 
-  line-fields : (r : FlowRequest) → Renders text r → fieldsIn (readOn (reading start room) text) ≡ fieldsOf r
+  line-fields : (r : TraceLine) → Renders text r → fieldsIn (readOn (reading start room) text) ≡ fieldsOf r
   line-fields r h =
       let ns = spelling r .numbers in
       let f = fair r in
-      ap (λ (t : List ℕ). fieldsIn (readOn (reading start room) t)) (h .1 ∙ ap (λ (w : List ℕ). line w ns) (sym (f .0)))
-      ∙ complete room (key r) ns (ap (readOn (reading start room)) (f .0) ∙ f .1 room) (h .0) (omega (arith, f .2))
+      ap (λ (t : List ℕ). fieldsIn (readOn (reading start room) t)) (h .1 ∙ ap (λ (w : List ℕ). line w ns) (sym (f .word-own)))
+      ∙ complete room (key r) ns (ap (readOn (reading start room)) (f .word-own) ∙ f .word-read room) (h .0) (omega (arith, f .few))
 
   -- what is told of the fields of a line is what its text is read as
   pub reads-line : {p : Parsed} → Tells (fieldsIn (readOn (reading start room) text)) p → Reads text p
@@ -104,8 +54,8 @@ module _ (room : List ℕ) (long : maxFields ≤ length room) (text : List ℕ) 
 -- ---- a text has one reading, and a line one request
 
 pub reads-once : (text : List ℕ) (p q : Parsed) → Reads text p → Reads text q → p ≡ q
-reads-once text (Request r) q f g = sym (g r .1 (f r .0 refl))
-reads-once text BadLine (Request r) f g = f r .1 (g r .0 refl)
+reads-once text (Read r) q f g = sym (g r .1 (f r .0 refl))
+reads-once text BadLine (Read r) f g = f r .1 (g r .0 refl)
 reads-once text BadLine BadLine f g = refl
 
 -- what a text is read as
@@ -118,9 +68,9 @@ reading-of text =
     reads-line room (omega arith) text (tells (fieldsIn (readOn (reading start room) text)))
 
 -- requests with the same line are the same
-pub line-once : (text : List ℕ) (r s : FlowRequest) → Renders text r → Renders text s → r ≡ s
+pub line-once : (text : List ℕ) (r s : TraceLine) → Renders text r → Renders text s → r ≡ s
 line-once text r s f g =
-    let p : readingOf text ≡ Request r = reading-of text r .1 f in
-    let q : readingOf text ≡ Request s = reading-of text s .1 g in
-    let same : Request r ≡ Request s = sym p ∙ q in
+    let p : readingOf text ≡ Read r = reading-of text r .1 f in
+    let q : readingOf text ≡ Read s = reading-of text s .1 g in
+    let same : Read r ≡ Read s = sym p ∙ q in
     cc

@@ -6,7 +6,6 @@ ghost use Rattle.trace_requests.specs.FieldRequests.{Tells, first, ofNon
 use confidential_hart::ConfidentialHartId;
 use confidential_hart::HardwareHartId;
 use confidential_hart_remote_command::ConfidentialHartRemoteCommand;
-use flow_requests::FlowRequest;
 use monitor_requests::Request;
 use monitor_requests::Setup;
 use trace_fields::Line;
@@ -53,17 +52,23 @@ pub const HOME: u64 = 8_15_13_05;
 // The most fields that the line of a request has.
 pub const FIELDS: usize = 8;
 
-// What a line says: a request, or nothing that is one.
+// A line of a trace is a setup or a request.
+pub enum TraceLine {
+    SetUp(Setup),
+    Ask(Request),
+}
+
+// What a text says: a line of a trace, or nothing that is one.
 pub enum Parsed {
-    Request(FlowRequest),
+    Read(TraceLine),
     BadLine,
 }
 
-// A request that does no command.
-fn plain(request: Request) -> Parsed
-    ensures { λ r. ⌜ r ≡ Parsed.Request (FlowRequest.Plain request) ⌝ }
+// The line of a request.
+fn ask(request: Request) -> Parsed
+    ensures { λ r. ⌜ r ≡ Parsed.Read (TraceLine.Ask request) ⌝ }
 {
-    Parsed::Request(FlowRequest::Plain(request))
+    Parsed::Read(TraceLine::Ask(request))
 }
 
 // The request of a word that no number follows.
@@ -71,7 +76,7 @@ fn of_none(word: u64) -> Parsed
     ensures { λ r. ⌜ r ≡ first word ofNone ⌝ }
 {
     if word == HOME {
-        return plain(Request::Home);
+        return ask(Request::Home);
     }
     Parsed::BadLine
 }
@@ -81,28 +86,28 @@ fn of_one(word: u64, a: u64) -> Parsed
     ensures { λ r. ⌜ r ≡ first word (ofOne a) ⌝ }
 {
     if word == RETURN {
-        return plain(Request::Return(HardwareHartId(a)));
+        return ask(Request::Return(HardwareHartId(a)));
     }
     if word == SUSPEND {
-        return plain(Request::Suspend(HardwareHartId(a)));
+        return ask(Request::Suspend(HardwareHartId(a)));
     }
     if word == STOP {
-        return plain(Request::Stop(HardwareHartId(a)));
+        return ask(Request::Stop(HardwareHartId(a)));
     }
     if word == OFF {
-        return plain(Request::Off(HardwareHartId(a)));
+        return ask(Request::Off(HardwareHartId(a)));
     }
     if word == STATUS {
-        return plain(Request::Status(ConfidentialHartId(a)));
+        return ask(Request::Status(ConfidentialHartId(a)));
     }
     if word == PROCESS {
-        return Parsed::Request(FlowRequest::Process(HardwareHartId(a)));
+        return ask(Request::Process(HardwareHartId(a)));
     }
     if word == RESUME {
-        return Parsed::Request(FlowRequest::Resume(HardwareHartId(a)));
+        return ask(Request::Resume(HardwareHartId(a)));
     }
     if word == ALLOW {
-        return plain(Request::Allow(a));
+        return ask(Request::Allow(a));
     }
     Parsed::BadLine
 }
@@ -112,16 +117,16 @@ fn of_two(word: u64, a: u64, b: u64) -> Parsed
     ensures { λ r. ⌜ r ≡ first word (ofTwo a b) ⌝ }
 {
     if word == STEAL {
-        return plain(Request::Steal(ConfidentialHartId(a), HardwareHartId(b)));
+        return ask(Request::Steal(ConfidentialHartId(a), HardwareHartId(b)));
     }
     if word == ADD {
-        return plain(Request::Add(a, b));
+        return ask(Request::Add(a, b));
     }
     if word == REMOVE {
-        return plain(Request::Remove(a, b));
+        return ask(Request::Remove(a, b));
     }
     if word == DEFINED {
-        return plain(Request::Defined(a, b));
+        return ask(Request::Defined(a, b));
     }
     Parsed::BadLine
 }
@@ -131,10 +136,10 @@ fn of_three(word: u64, a: u64, b: u64, c: u64) -> Parsed
     ensures { λ r. ⌜ r ≡ first word (ofThree a b c) ⌝ }
 {
     if word == START {
-        return plain(Request::Start(ConfidentialHartId(a), b, c));
+        return ask(Request::Start(ConfidentialHartId(a), b, c));
     }
     if word == WAKE {
-        return plain(Request::Wake(HardwareHartId(a), b, c));
+        return ask(Request::Wake(HardwareHartId(a), b, c));
     }
     Parsed::BadLine
 }
@@ -144,7 +149,7 @@ fn of_four(word: u64, a: u64, b: u64, c: u64, d: u64) -> Parsed
     ensures { λ r. ⌜ r ≡ first word (ofFour a b c d) ⌝ }
 {
     if word == AWAIT {
-        return plain(Request::Await(HardwareHartId(a), b, c, d));
+        return ask(Request::Await(HardwareHartId(a), b, c, d));
     }
     Parsed::BadLine
 }
@@ -154,7 +159,7 @@ fn of_seven(word: u64, a: u64, b: u64, c: u64, d: u64, e: u64, f: u64, g: u64) -
     ensures { λ r. ⌜ r ≡ first word (ofSeven a b c d e f g) ⌝ }
 {
     if word == SETUP {
-        return plain(Request::Setup(Setup {
+        return Parsed::Read(TraceLine::SetUp(Setup {
             harts: a,
             hardware: b,
             boot: c,
@@ -173,10 +178,10 @@ fn of_seven(word: u64, a: u64, b: u64, c: u64, d: u64, e: u64, f: u64, g: u64) -
         tag: g,
     };
     if word == SEND {
-        return plain(Request::Send(a, command));
+        return ask(Request::Send(a, command));
     }
     if word == BROADCAST {
-        return Parsed::Request(FlowRequest::Broadcast(HardwareHartId(a), command));
+        return ask(Request::Broadcast(HardwareHartId(a), command));
     }
     Parsed::BadLine
 }
@@ -218,7 +223,8 @@ fn request_of(fields: &[u64]) -> Parsed
 
 // Ends a line that was read in parts, and tells what it says. Where fewer than 8 words are lent, a line of more fields than words is no request.
 pub fn request(line: Line, fields: &mut [u64]) -> Parsed
-    ensures { λ r. ⌜ Tells (fieldsIn (reading line (now (fields .entry)))) r × (now (fields .exit) ≡ closed (reading line (now (fields .entry))) .fields) ⌝ }
+    ensures { λ r. ⌜ Tells (fieldsIn (reading line (now (fields .entry)))) r
+        × (now (fields .exit) ≡ closed (reading line (now (fields .entry))) .fields) ⌝ }
 {
     let count = trace_fields::end(line, fields);
     request_of(&fields[..count])

@@ -4,7 +4,7 @@ use native.Mathlib.Omega.{arith}
 use borrow.Author.Tests.{not-true, not-false}
 use Rattle.table_rows.specs.Rows.{put}
 use Rattle.confidential_hart.specs.Hart.{withOperation}
-use Rattle.hart_rows.specs.Rows.{hartWords, toWords}
+use Rattle.hart_rows.specs.HartRows.{hartWords, toWords}
 use borrow.Author.Needs.{needs}
 use Rattle.confidential_flow.proofs.AwaitLaws.{isPending, unknown-refused, missing-refused, idle-refused, pending-refused, await-done}
 use Rattle.confidential_flow.proofs.await_operation.Statement.{statement}

@@ -1,9 +1,9 @@
 -- `confidential_flow::resume_confidential_hart_execution` meets its contract: 12 first, and then what sound tables have. Assumes nothing.
-use mathlib.Core.Path.{refl, sym, _∙_}
+use mathlib.Core.Path.{sym, _∙_}
 use borrow.Author.Tests.{not-true, not-false}
 use Rattle.monitor_requests.proofs.SoundLaws.{sound-sized}
-use Rattle.flow_requests.specs.declared.FlowRequest.the-variants.{Resume}
-use Rattle.flow_requests.proofs.FlowLaws.{flow-unsound-refused}
+use Rattle.monitor_requests.specs.declared.Request.the-variants.{Resume}
+use Rattle.monitor_requests.proofs.JudgedLaws.{unsound-refused}
 use borrow.Author.Needs.{needs}
 use Rattle.confidential_flow.proofs.resume_confidential_hart_execution.Statement.{statement}
 use Rattle.confidential_flow.proofs.resume_confidential_hart_execution.Tie as tie
@@ -12,7 +12,7 @@ returns : tie.Need-returns
 returns c =
     let test = c .before in
     rw (c .refused .ensures)
-    (sym (flow-unsound-refused (Resume _) _ _ refl (sym (test .before .are-tables-sound .ensures) ∙ not-true _ (test .if1 .taken))))
+    (sym (unsound-refused (Resume _) _ _ (sym (test .before .are-tables-sound .ensures) ∙ not-true _ (test .if1 .taken))))
 
 resume-requires : tie.Need-resume-requires
 resume-requires c κs =

@@ -1,5 +1,6 @@
 -- `confidential_flow::set_resumable_operation` meets its contract: 12 first, and then what sound tables have. Assumes nothing.
-use mathlib.Core.Path.{refl, sym, _∙_}
+use mathlib.Core.List.{[]}
+use mathlib.Core.Path.{sym, _∙_}
 use borrow.Author.Tests.{not-true, not-false}
 use Rattle.monitor_requests.specs.declared.Request.the-variants.{Await}
 use Rattle.monitor_requests.proofs.SoundLaws.{sound-sized}
@@ -9,7 +10,7 @@ use Rattle.confidential_flow.proofs.set_resumable_operation.Statement.{
 use Rattle.confidential_flow.proofs.set_resumable_operation.Tie as tie
 
 returns : tie.Need-returns
-returns c = sym (unsound-refused (Await _ _ _ _) _ refl (sym (c .before .are-tables-sound .ensures) ∙ not-true _ (c .if1 .taken)))
+returns c = sym (unsound-refused (Await _ _ _ _) _ [] (sym (c .before .are-tables-sound .ensures) ∙ not-true _ (c .if1 .taken)))
 
 await-operation-requires : tie.Need-await-operation-requires
 await-operation-requires c κs =

@@ -1,23 +1,23 @@
 -- `confidential_flow_remote_commands::broadcast` meets its contract: the tests, then what the sender does, then the tables' broadcast. Assumes nothing.
 use mathlib.Core.Path.{refl, sym, ap, _∙_}
 use mathlib.Core.Bool.{not}
-use borrow.Author.Tests.{lt-ltb, le-ltb, le-leb, lt-leb}
+use borrow.Author.Tests.{not-false, lt-ltb, le-ltb, le-leb, lt-leb}
 use Rattle.table_rows.proofs.PickLaws.{yes, no, not-no}
-use Rattle.flow_requests.specs.FlowRequests.{flowTests, flowEffect, flowPerformed}
+use Rattle.monitor_requests.specs.Requests.{tests, effect, performed}
 use Rattle.confidential_flow_remote_commands.proofs.SentLaws.{sent-sound, sent-is}
 use borrow.Author.Needs.{needs}
 use Rattle.confidential_flow_remote_commands.proofs.broadcast.Statement.{statement}
 use Rattle.confidential_flow_remote_commands.proofs.broadcast.Tie as tie
 
 returns : tie.Need-returns
-unfolding flowPerformed flowTests flowEffect
+unfolding performed tests effect
 returns c =
     let room = c .before in
     let start = room .before .before .before .before .before .before .before in
     rw (c .refused .ensures) (no _ (not-no _ (start .pre .1)) (yes _ (lt-ltb _ _ (room .if1 .taken)) refl))
 
 returns-2 : tie.Need-returns-2
-unfolding flowPerformed flowTests flowEffect
+unfolding performed tests effect
 returns-2 c =
     let form = c .before in
     let room = form .before .before in
@@ -28,7 +28,7 @@ returns-2 c =
     (yes _ (ap not (sym (form .before .is-well-formed .ensures)) ∙ form .if2 .taken) refl)))
 
 returns-3 : tie.Need-returns-3
-unfolding flowPerformed flowTests flowEffect
+unfolding performed tests effect
 returns-3 c =
     let there = c .before in
     let form = there .before .before .before in
@@ -41,7 +41,7 @@ returns-3 c =
     (yes _ (le-leb _ _ (there .if3 .taken)) refl))))
 
 returns-4 : tie.Need-returns-4
-unfolding flowPerformed flowTests flowEffect
+unfolding performed tests effect
 returns-4 c =
     let held = c .before in
     let there = held .before .before .before in
@@ -65,7 +65,7 @@ broadcast-requires c κs =
     sent-sound _ _ _ _ _ (did .execute-own .ensures) (start .pre .1) (there .if3 .left)
 
 returns-5 : tie.Need-returns-5
-unfolding flowPerformed flowTests flowEffect
+unfolding performed tests effect
 returns-5 c =
     let sent = c .before .before in
     let did = sent .before .before .before .before .before .before .before in
@@ -80,7 +80,8 @@ returns-5 c =
     (no _ (ap not (sym (form .before .is-well-formed .ensures)) ∙ form .if2 .left)
     (no _ (lt-leb _ _ (there .if3 .left))
     (no _ (sym (held .before .is-dummy .ensures) ∙ held .if4 .left)
-    (sent-is _ _ _ _ _ (did .execute-own .ensures) (named .id .ensures) (sent .broadcast .ensures))))))
+    (sent-is _ _ _ _ _ (did .execute-own .ensures) (start .pre .1) (there .if3 .left)
+    (sym (form .before .is-well-formed .ensures) ∙ not-false _ (form .if2 .left)) (named .id .ensures) (sent .broadcast .ensures))))))
 
 pub broadcast-spec : {M : Type 1} → statement M
 broadcast-spec =

@@ -1,9 +1,9 @@
 -- `confidential_flow_remote_commands::broadcast_remote_command` meets its contract: 12 first, and then what sound tables have. Assumes nothing.
-use mathlib.Core.Path.{refl, sym, _∙_}
+use mathlib.Core.Path.{sym, _∙_}
 use borrow.Author.Tests.{not-true, not-false}
 use Rattle.monitor_requests.proofs.SoundLaws.{sound-sized}
-use Rattle.flow_requests.specs.declared.FlowRequest.the-variants.{Broadcast}
-use Rattle.flow_requests.proofs.FlowLaws.{flow-unsound-refused}
+use Rattle.monitor_requests.specs.declared.Request.the-variants.{Broadcast}
+use Rattle.monitor_requests.proofs.JudgedLaws.{unsound-refused}
 use borrow.Author.Needs.{needs}
 use Rattle.confidential_flow_remote_commands.proofs.broadcast_remote_command.Statement.{statement}
 use Rattle.confidential_flow_remote_commands.proofs.broadcast_remote_command.Tie as tie
@@ -12,7 +12,7 @@ returns : tie.Need-returns
 returns c =
     let test = c .before in
     rw (c .refused .ensures)
-    (sym (flow-unsound-refused (Broadcast _ _) _ _ refl (sym (test .before .are-tables-sound .ensures) ∙ not-true _ (test .if1 .taken))))
+    (sym (unsound-refused (Broadcast _ _) _ _ (sym (test .before .are-tables-sound .ensures) ∙ not-true _ (test .if1 .taken))))
 
 broadcast-requires : tie.Need-broadcast-requires
 broadcast-requires c κs =

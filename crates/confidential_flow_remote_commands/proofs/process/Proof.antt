@@ -2,21 +2,21 @@
 use mathlib.Core.Path.{refl, sym, _∙_}
 use borrow.Author.Tests.{lt-ltb, le-ltb, le-leb, lt-leb}
 use Rattle.table_rows.proofs.PickLaws.{yes, no, not-no}
-use Rattle.flow_requests.specs.FlowRequests.{flowTests, flowEffect, flowPerformed}
+use Rattle.monitor_requests.specs.Requests.{tests, effect, performed}
 use Rattle.held_hart.proofs.HeldLaws.{held-fits}
 use borrow.Author.Needs.{needs}
 use Rattle.confidential_flow_remote_commands.proofs.process.Statement.{statement}
 use Rattle.confidential_flow_remote_commands.proofs.process.Tie as tie
 
 returns : tie.Need-returns
-unfolding flowPerformed flowTests flowEffect
+unfolding performed tests effect
 returns c =
     let room = c .before in
     let start = room .before .before .before .before .before .before .before in
     rw (c .refused .ensures) (no _ (not-no _ (start .pre .1)) (yes _ (lt-ltb _ _ (room .if1 .taken)) refl))
 
 returns-2 : tie.Need-returns-2
-unfolding flowPerformed flowTests flowEffect
+unfolding performed tests effect
 returns-2 c =
     let there = c .before in
     let room = there .before .before .before in
@@ -27,7 +27,7 @@ returns-2 c =
     (yes _ (le-leb _ _ (there .if2 .taken)) refl)))
 
 returns-3 : tie.Need-returns-3
-unfolding flowPerformed flowTests flowEffect
+unfolding performed tests effect
 returns-3 c =
     let held = c .before in
     let there = held .before .before .before in
@@ -49,7 +49,7 @@ execute-queued-requires c κs =
     held-fits _ (start .pre .1) _ (there .if2 .left) (sym (held .before .is-dummy .ensures) ∙ held .if3 .left) (named .id .ensures) (start .args .effects .now) (room .if1 .left)
 
 returns-4 : tie.Need-returns-4
-unfolding flowPerformed flowTests flowEffect
+unfolding performed tests effect
 returns-4 c =
     let did = c .before .before .before .before .before .before in
     let named = did .before .before .before .before in

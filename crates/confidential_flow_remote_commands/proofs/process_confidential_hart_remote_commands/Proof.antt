@@ -1,9 +1,9 @@
 -- `confidential_flow_remote_commands::process_confidential_hart_remote_commands` meets its contract: 12 first, and then what sound tables have. Assumes nothing.
-use mathlib.Core.Path.{refl, sym, _∙_}
+use mathlib.Core.Path.{sym, _∙_}
 use borrow.Author.Tests.{not-true, not-false}
 use Rattle.monitor_requests.proofs.SoundLaws.{sound-sized}
-use Rattle.flow_requests.specs.declared.FlowRequest.the-variants.{Process}
-use Rattle.flow_requests.proofs.FlowLaws.{flow-unsound-refused}
+use Rattle.monitor_requests.specs.declared.Request.the-variants.{Process}
+use Rattle.monitor_requests.proofs.JudgedLaws.{unsound-refused}
 use borrow.Author.Needs.{needs}
 use Rattle.confidential_flow_remote_commands.proofs.process_confidential_hart_remote_commands.Statement.{statement}
 use Rattle.confidential_flow_remote_commands.proofs.process_confidential_hart_remote_commands.Tie as tie
@@ -12,7 +12,7 @@ returns : tie.Need-returns
 returns c =
     let test = c .before in
     rw (c .refused .ensures)
-    (sym (flow-unsound-refused (Process _) _ _ refl (sym (test .before .are-tables-sound .ensures) ∙ not-true _ (test .if1 .taken))))
+    (sym (unsound-refused (Process _) _ _ (sym (test .before .are-tables-sound .ensures) ∙ not-true _ (test .if1 .taken))))
 
 process-requires : tie.Need-process-requires
 process-requires c κs =

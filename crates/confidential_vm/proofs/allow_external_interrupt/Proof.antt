@@ -1,5 +1,6 @@
 -- `confidential_vm::allow_external_interrupt` meets its contract: 12 first, and then what sound tables have. Assumes nothing.
-use mathlib.Core.Path.{refl, sym, _∙_}
+use mathlib.Core.List.{[]}
+use mathlib.Core.Path.{sym, _∙_}
 use borrow.Author.Tests.{not-true, not-false}
 use Rattle.monitor_requests.specs.declared.Request.the-variants.{Allow}
 use Rattle.monitor_requests.proofs.SoundLaws.{sound-sized}
@@ -9,7 +10,7 @@ use Rattle.confidential_vm.proofs.allow_external_interrupt.Statement.{s
 use Rattle.confidential_vm.proofs.allow_external_interrupt.Tie as tie
 
 returns : tie.Need-returns
-returns c = sym (unsound-refused (Allow _) _ refl (sym (c .before .are-tables-sound .ensures) ∙ not-true _ (c .if1 .taken)))
+returns c = sym (unsound-refused (Allow _) _ [] (sym (c .before .are-tables-sound .ensures) ∙ not-true _ (c .if1 .taken)))
 
 allow-requires : tie.Need-allow-requires
 allow-requires c κs =

@@ -7,7 +7,7 @@ use Rattle.table_rows.specs.Choice.{every}
 use Rattle.table_rows.proofs.PickLaws.{not-yes, not-no}
 use Rattle.table_rows.proofs.EveryLaws.{every-none, every-more, every-not, every-all}
 use Rattle.confidential_hart.specs.Hart.{isDummy}
-use Rattle.hart_rows.specs.Rows.{hartAt}
+use Rattle.hart_rows.specs.HartRows.{hartAt}
 use Rattle.confidential_vm_lifecycle.proofs.are_all_home.Statement.{statement}
 use Rattle.confidential_vm_lifecycle.proofs.are_all_home.Tie as tie
 

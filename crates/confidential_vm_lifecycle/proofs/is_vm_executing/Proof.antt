@@ -1,5 +1,6 @@
 -- `confidential_vm_lifecycle::is_vm_executing` meets its contract: 12 first, and then what sound tables have. Assumes nothing.
-use mathlib.Core.Path.{refl, sym, _∙_}
+use mathlib.Core.List.{[]}
+use mathlib.Core.Path.{sym, _∙_}
 use borrow.Author.Tests.{not-true, not-false}
 use Rattle.monitor_requests.specs.declared.Request.the-variants.{Home}
 use Rattle.monitor_requests.proofs.SoundLaws.{sound-sized}
@@ -9,7 +10,7 @@ use Rattle.confidential_vm_lifecycle.proofs.is_vm_executing.Statement.{
 use Rattle.confidential_vm_lifecycle.proofs.is_vm_executing.Tie as tie
 
 returns : tie.Need-returns
-returns c = sym (unsound-refused Home _ refl (sym (c .before .are-tables-sound .ensures) ∙ not-true _ (c .if1 .taken)))
+returns c = sym (unsound-refused Home _ [] (sym (c .before .are-tables-sound .ensures) ∙ not-true _ (c .if1 .taken)))
 
 executing-requires : tie.Need-executing-requires
 executing-requires c κs =

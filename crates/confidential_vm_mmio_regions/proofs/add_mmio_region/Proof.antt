@@ -1,5 +1,6 @@
 -- `confidential_vm_mmio_regions::add_mmio_region` meets its contract: the tables are judged, and sound ones passed on. Assumes nothing.
-use mathlib.Core.Path.{refl, sym, _∙_}
+use mathlib.Core.List.{[]}
+use mathlib.Core.Path.{sym, _∙_}
 use borrow.Author.Needs.{needs}
 use borrow.Author.Tests.{not-true, not-false}
 use Rattle.monitor_requests.specs.declared.Request.the-variants.{Add}
@@ -9,7 +10,7 @@ use Rattle.confidential_vm_mmio_regions.proofs.add_mmio_region.Statemen
 use Rattle.confidential_vm_mmio_regions.proofs.add_mmio_region.Tie as tie
 
 returns : tie.Need-returns
-returns c = sym (unsound-refused (Add _ _) _ refl (sym (c .before .are-tables-sound .ensures) ∙ not-true _ (c .if1 .taken)))
+returns c = sym (unsound-refused (Add _ _) _ [] (sym (c .before .are-tables-sound .ensures) ∙ not-true _ (c .if1 .taken)))
 
 add-requires : tie.Need-add-requires
 add-requires c κs =

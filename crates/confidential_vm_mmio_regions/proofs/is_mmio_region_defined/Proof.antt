@@ -1,5 +1,6 @@
 -- `confidential_vm_mmio_regions::is_mmio_region_defined` meets its contract: the tables are judged, and sound ones passed on. Assumes nothing.
-use mathlib.Core.Path.{refl, sym, _∙_}
+use mathlib.Core.List.{[]}
+use mathlib.Core.Path.{sym, _∙_}
 use borrow.Author.Needs.{needs}
 use borrow.Author.Tests.{not-true, not-false}
 use Rattle.monitor_requests.specs.declared.Request.the-variants.{Defined}
@@ -9,7 +10,7 @@ use Rattle.confidential_vm_mmio_regions.proofs.is_mmio_region_defined.S
 use Rattle.confidential_vm_mmio_regions.proofs.is_mmio_region_defined.Tie as tie
 
 returns : tie.Need-returns
-returns c = sym (unsound-refused (Defined _ _) _ refl (sym (c .before .are-tables-sound .ensures) ∙ not-true _ (c .if1 .taken)))
+returns c = sym (unsound-refused (Defined _ _) _ [] (sym (c .before .are-tables-sound .ensures) ∙ not-true _ (c .if1 .taken)))
 
 is-defined-requires : tie.Need-is-defined-requires
 is-defined-requires c κs =

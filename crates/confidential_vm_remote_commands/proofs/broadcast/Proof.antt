@@ -1,4 +1,5 @@
 -- `confidential_vm_remote_commands::broadcast` meets its contract: 19, and then the harts in order. Assumes nothing.
+use mathlib.Core.List.{[]}
 use mathlib.Core.Path.{sym, _∙_}
 use borrow.Author.Tests.{not-true, not-false}
 use Rattle.monitor_requests.proofs.BroadcastLaws.{send-unknown, send-is}
@@ -11,7 +12,7 @@ returns : tie.Need-returns
 returns c =
     let w = c .before in
     let p = w .before .before .before .before .before .before in
-    sym (send-unknown _ _ _ (p .pre .1) (sym (w .is-well-formed .ensures) ∙ not-true _ (c .if1 .taken)))
+    sym (send-unknown _ _ _ [] (p .pre .1) (sym (w .is-well-formed .ensures) ∙ not-true _ (c .if1 .taken)))
 
 deliver-requires : tie.Need-deliver-requires
 deliver-requires c κs =
@@ -24,7 +25,7 @@ returns-2 c =
     let f = d .before .before .before in
     let w = f .before in
     let p = w .before .before .before .before .before .before in
-    send-is _ _ _ (p .pre .1) (sym (w .is-well-formed .ensures) ∙ not-false _ (f .if1 .left)) _ _ (d .deliver .ensures)
+    send-is _ _ _ [] (p .pre .1) (sym (w .is-well-formed .ensures) ∙ not-false _ (f .if1 .left)) _ _ (d .deliver .ensures)
 
 pub broadcast-spec : {M : Type 1} → statement M
 broadcast-spec = tie.close (tie.spec (λ c κs. search needs) returns (λ c. search needs) deliver-requires (λ c. search needs) returns-2)

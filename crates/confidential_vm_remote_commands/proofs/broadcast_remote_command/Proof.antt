@@ -1,5 +1,6 @@
 -- `confidential_vm_remote_commands::broadcast_remote_command` meets its contract: 12, and then the broadcast over sound tables. Assumes nothing.
-use mathlib.Core.Path.{refl, sym, _∙_}
+use mathlib.Core.List.{[]}
+use mathlib.Core.Path.{sym, _∙_}
 use borrow.Author.Tests.{not-true, not-false}
 use Rattle.monitor_requests.specs.declared.Request.the-variants.{Send}
 use Rattle.monitor_requests.proofs.SoundLaws.{sound-sized}
@@ -11,7 +12,7 @@ use Rattle.confidential_vm_remote_commands.proofs.broadcast_remote_comm
 use Rattle.confidential_vm_remote_commands.proofs.broadcast_remote_command.Tie as tie
 
 returns : tie.Need-returns
-returns c = sym (unsound-refused (Send _ _) _ refl (sym (c .before .are-tables-sound .ensures) ∙ not-true _ (c .if1 .taken)))
+returns c = sym (unsound-refused (Send _ _) _ [] (sym (c .before .are-tables-sound .ensures) ∙ not-true _ (c .if1 .taken)))
 
 broadcast-requires : tie.Need-broadcast-requires
 broadcast-requires c κs =

@@ -6,7 +6,7 @@ use lib.ListN.{length}
 use borrow.Author.Needs.{needs}
 use native.Mathlib.Omega.{arith}
 use Rattle.table_rows.proofs.RowLaws.{within}
-use Rattle.hart_rows.specs.Rows.{hartWords}
+use Rattle.hart_rows.specs.HartRows.{hartWords}
 use Rattle.remote_commands.specs.Queue.{queueWords}
 use Rattle.monitor_requests.specs.Requests.{deliver}
 use Rattle.confidential_vm_remote_commands.proofs.TurnLaws.{turns-start, turns-done, turn-taken, turn-ends}

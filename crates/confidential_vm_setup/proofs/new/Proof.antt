@@ -1,11 +1,12 @@
 -- `confidential_vm_setup::new` meets its contract: the two tests in their order, and what is written. Assumes nothing.
+use mathlib.Core.List.{[]}
 use mathlib.Core.Path.{_≡_, refl, sym, ap, _∙_}
 use mathlib.Core.Bool.{Bool, true, false, _&&_, not}
 use borrow.Author.Needs.{needs}
 use borrow.Author.Tests.{not-false}
 use Rattle.table_rows.proofs.PickLaws.{yes, no, and-left}
 use Rattle.monitor_requests.specs.declared.Answer.the-variants.{Done}
-use Rattle.monitor_requests.specs.Requests.{outcome, tests, effect, performed}
+use Rattle.monitor_requests.specs.Requests.{answering, setUp, setupTests}
 use Rattle.monitor_requests.proofs.SoundLaws.{range-few-harts, range-few-hardware, long-facts}
 use Rattle.confidential_vm_setup.proofs.new.Statement.{statement}
 use Rattle.confidential_vm_setup.proofs.new.Tie as tie
@@ -18,7 +19,7 @@ ranged : {answer range : Bool} (below : Bool) → answer ≡ range → not (answ
 ranged {range = range} below e t = and-left range below (not-false _ (in-range below e t))
 
 returns : tie.Need-returns
-unfolding tests effect performed
+unfolding setUp setupTests
 returns c = yes _ (in-range _ (c .before .before .are-counts-in-range .ensures) (c .if1 .taken)) refl
 
 are-long-enough-requires : tie.Need-are-long-enough-requires
@@ -29,7 +30,7 @@ are-long-enough-requires c κs =
     (range-few-harts (setup .harts) (setup .hardware) range, range-few-hardware (setup .harts) (setup .hardware) range)
 
 returns-2 : tie.Need-returns-2
-unfolding tests effect performed
+unfolding setUp setupTests
 returns-2 c =
     let passed = c .before .before .before .before .before .before .before in
     no _ (in-range _ (passed .before .before .are-counts-in-range .ensures) (passed .if1 .left))
@@ -46,13 +47,13 @@ write-requires c κs =
     )
 
 returns-3 : tie.Need-returns-3
-unfolding tests effect performed
+unfolding setUp setupTests
 returns-3 c =
     let written = c .before .before .before .before .before .before .before .before .before .before in
     let judged = written .before .before .before .before .before .before in
     let passed = judged .before .before .before .before .before .before .before in
     no _ (in-range _ (passed .before .before .are-counts-in-range .ensures) (passed .if1 .left))
-    (no _ (ap not (sym (judged .before .are-long-enough .ensures)) ∙ judged .if2 .left) (ap (outcome Done) (written .write .ensures)))
+    (no _ (ap not (sym (judged .before .are-long-enough .ensures)) ∙ judged .if2 .left) (ap (λ x. answering Done x []) (written .write .ensures)))
 
 pub new-spec : {M : Type 1} → statement M
 new-spec =

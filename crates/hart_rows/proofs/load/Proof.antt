@@ -2,7 +2,7 @@
 use mathlib.Core.Path.{ap, _∙_}
 use borrow.Author.Needs.{needs}
 use Rattle.table_rows.proofs.PartLaws.{part-row}
-use Rattle.hart_rows.specs.Rows.{hartWords, hartAt, fromWords}
+use Rattle.hart_rows.specs.HartRows.{hartWords, hartAt, fromWords}
 use Rattle.hart_rows.proofs.load.Statement.{statement}
 use Rattle.hart_rows.proofs.load.Tie as tie
 

@@ -1,7 +1,7 @@
 -- `hart_rows::store` meets its contract: row i is lent as a part, and a record's words come back. Assumes nothing.
 use borrow.Author.Needs.{needs}
 use Rattle.table_rows.proofs.PartLaws.{part-put}
-use Rattle.hart_rows.specs.Rows.{hartWords}
+use Rattle.hart_rows.specs.HartRows.{hartWords}
 use Rattle.hart_rows.proofs.store.Statement.{statement}
 use Rattle.hart_rows.proofs.store.Tie as tie
 

@@ -3,7 +3,7 @@ use native.Mathlib.Omega.{arith}
 use lib.ListN.{length-set}
 use borrow.Author.Needs.{needs}
 use Rattle.table_rows.proofs.RowLaws.{sets-whole}
-use Rattle.hart_rows.specs.Rows.{toWords}
+use Rattle.hart_rows.specs.HartRows.{toWords}
 use Rattle.hart_rows.proofs.to_words.Statement.{statement}
 use Rattle.hart_rows.proofs.to_words.Tie as tie
 

@@ -1,7 +1,7 @@
 -- `hart_tables::exchange` meets its contract: both records are loaded before one is stored. Assumes nothing.
 use mathlib.Core.Path.{ap, _∙_}
 use Rattle.table_rows.specs.Rows.{put}
-use Rattle.hart_rows.specs.Rows.{hartWords, toWords}
+use Rattle.hart_rows.specs.HartRows.{hartWords, toWords}
 use Rattle.hart_rows.proofs.HartRowLaws.{loaded-words}
 use borrow.Author.Needs.{needs}
 use Rattle.hart_tables.proofs.exchange.Statement.{statement}

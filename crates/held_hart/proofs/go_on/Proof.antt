@@ -2,7 +2,7 @@
 use mathlib.Core.Path.{refl}
 use borrow.Author.Tests.{eq-eqb, ne-eqb}
 use Rattle.table_rows.proofs.PickLaws.{yes, no, not-yes, not-no}
-use Rattle.flow_requests.specs.FlowRequests.{goesOn}
+use Rattle.monitor_requests.specs.Requests.{goesOn}
 use borrow.Author.Needs.{needs}
 use Rattle.held_hart.proofs.go_on.Statement.{statement}
 use Rattle.held_hart.proofs.go_on.Tie as tie

@@ -6,7 +6,7 @@ use Rattle.table_rows.specs.Rows.{put}
 use Rattle.table_rows.proofs.PickLaws.{yes, no}
 use Rattle.confidential_hart.specs.declared.Transition.{Transition}
 use Rattle.confidential_hart.specs.Transition.{afterOff}
-use Rattle.hart_rows.specs.Rows.{hartWords, toWords}
+use Rattle.hart_rows.specs.HartRows.{hartWords, toWords}
 use borrow.Author.Needs.{needs}
 use Rattle.held_hart.proofs.power_off_if.Statement.{statement}
 use Rattle.held_hart.proofs.power_off_if.Tie as tie

@@ -1,6 +1,6 @@
 -- `leaf_exports::leaf_from_vm_hart` meets its contract: the row holds the words of the hart that was made. Assumes nothing.
 use mathlib.Core.Path.{ap, _∙_}
-use Rattle.hart_rows.specs.Rows.{toWords}
+use Rattle.hart_rows.specs.HartRows.{toWords}
 use borrow.Author.Needs.{needs}
 use Rattle.leaf_exports.proofs.leaf_from_vm_hart.Statement.{statement}
 use Rattle.leaf_exports.proofs.leaf_from_vm_hart.Tie as tie

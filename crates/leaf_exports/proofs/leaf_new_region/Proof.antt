@@ -2,7 +2,7 @@
 use mathlib.Core.Path.{ap, _∙_}
 use mathlib.Core.List.{[], _∷_}
 use Rattle.table_rows.proofs.RowLaws.{sets-whole}
-use Rattle.leaf_exports.specs.Answers.{answer, ofRegion}
+use Rattle.leaf_exports.specs.LeafAnswers.{answer, ofRegion}
 use borrow.Author.Needs.{needs}
 use Rattle.leaf_exports.proofs.leaf_new_region.Statement.{statement}
 use Rattle.leaf_exports.proofs.leaf_new_region.Tie as tie

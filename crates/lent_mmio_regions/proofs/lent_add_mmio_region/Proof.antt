@@ -20,8 +20,7 @@ use contract.Monad.{Fun, fact, factI}
 use contract.Running.{givenOf, tables, tablesOf}
 use types.Kit.{Given, ‵, ⋆, atRet, _$_, _∵_, !, qed, by, move, keep, drop, join, rewrite, fjoin, frame, done}
 use types.Part.{whole, sub, look-in}
-use types.Run.{look, store-raw, init, forget, stop, hop, fld, from, load, lit, of-opd, bin, and-then, no-more, assigns, assigns-last, land}
-use types.Run.{first, skips, branches, returns, free1, free0, exec}
+use types.Run.{look, store-raw, init, forget, stop, hop, fld, from, load, lit, of-opd, bin, and-then, no-more, assigns, assigns-last, land, first, skips, branches, returns, free1, free0, exec}
 use denote.Plain.{uint-makes}
 use denote.Builtin.{u64}
 use denote.Index.{place-is, elem-out, elem-put, closes-slice}
@@ -45,7 +44,7 @@ use Rattle.mmio_region_survey.proofs.Survey.Laws as S′
 use Rattle.mmio_region_survey.proofs.Changed as D
 use Rattle.mmio_region_survey.proofs.Changed.Laws as D′
 use Rattle.mmio_region_survey.specs.Survey.{addAnswer}
-use Rattle.lent_mmio_regions.specs.Run.{unused, outcome, added}
+use Rattle.lent_mmio_regions.specs.Run.{unused, runChange, added}
 use Rattle.lent_mmio_regions.proofs.AnswerLaws.{add-room, add-stored, add-kept}
 use Rattle.lent_mmio_regions.proofs.Calls.{vals, times-fits, calls-value}
 use Rattle.lent_mmio_regions.proofs.RunCalls.{seen-vals, holds, fails, Requests, Surveys}
@@ -88,7 +87,7 @@ module _ {M : Type 1} (𝓤 : URA M) (H : Heap 𝓤) (A : Atoms 𝓤) (W : Given
 
   -- the borrow is closed at a run that is what is promised
   exits : (zs : List ConfidentialVmMmioRegion) → length zs ≡ length ys → (d : Changed) → Is D.the-row d (LL.vals D.the-type D′.the-laws d)
-      → outcome d zs ≡ added ys n base size
+      → runChange d zs ≡ added ys n base size
       → ent 𝓤 (⋆ 𝓤 H A (walk.Closed D′.mir word tyPtr body.t-5 𝓤 H A W at-mem run
       (f.clauses 𝓤 H A at-mem run) κ q b o γ ys n base size zs)) (Post (D′.lowered d))
   exits zs len d isd e = walk.exits D′.mir word tyPtr body.t-5 𝓤 H A W at-mem run
@@ -134,12 +133,12 @@ module _ {M : Type 1} (𝓤 : URA M) (H : Heap 𝓤) (A : Atoms 𝓤) (W : Given
   within : T (eqb (answer .number) no-refusal) → n < length ys
   within yes? = add-room ys n base size (holds (eqb (answer .number) no-refusal) yes?)
 
-  module _ (C : Calls 𝓤 H) (Λ : Loops 𝓤 H) (fm : FmC 𝓤 H (W .laws) C) (answered : Triple 𝓤 (C #answers) (Answers 𝓤 H A at-mem run)) where
+  module _ (C : Calls 𝓤 H) (Λ : Loops 𝓤 H) (fm : FmC 𝓤 H (W .laws) C) (replied : Triple 𝓤 (C #answers) (Answers 𝓤 H A at-mem run)) where
     ends : walk.Ends D′.mir word tyPtr body.t-5 𝓤 H A W at-mem run
         (f.clauses 𝓤 H A at-mem run) κ q b o γ ys n base size room gn gb gs tt C Λ
     ends isq iss l₀ l₁ l₂ l₃ l₄ l₅ l₆ l₇ l₈ l₉ l₁₀ l₁₁ l₁₂ l₁₃ =
         -- [the row; the open borrow; obs; auth; _13; …]
-        calls-value ! fm (Answers 𝓤 H A at-mem run) answered to-answer (goes-answer iss)
+        calls-value ! fm (Answers 𝓤 H A at-mem run) replied to-answer (goes-answer iss)
         (and-then ! (load ! (from ! (stop !)) (look ! 18 refl)) (and-then ! (load ! (from ! (stop !)) (look ! 26 refl)) (and-then !
         (load ! (from ! (stop !)) (look ! 24 refl)) (and-then ! (load ! (from ! (stop !)) (look ! 22 refl)) (no-more !)))))
         D.the-row (LL.val D.the-type D′.the-laws) (LL.tells D.the-type D′.the-laws) answer said-answer (λ v. id⊢ 𝓤 _) (λ isd.

@@ -17,8 +17,7 @@ use ghost.Atoms.{Atoms, sem}
 use contract.Monad.{Fun, fact}
 use contract.Running.{givenOf, tables, tablesOf}
 use types.Kit.{Given, ‵, _⊛_, _$_, _∵_, !, qed, by, move, keep, drop, split, join, fsplit, fjoin, suffices, frame, done}
-use types.Run.{look, init, forget, stop, from, load, and-then, no-more, land, returns, enter, alloc1}
-use types.Run.{alloc0, params1, pass1, pass0, free1, free0}
+use types.Run.{look, init, forget, stop, from, load, and-then, no-more, land, returns, enter, alloc1, alloc0, params1, pass1, pass0, free1, free0}
 use sound.WpLaws.{FmC, fmOf, WpFn-mono}
 use denote.RattleType.{owns}
 use denote.Laws.{Is}
@@ -50,8 +49,7 @@ use Rattle.mmio_region_survey.proofs.Defined.Laws as D′
 use Rattle.lent_mmio_regions.specs.Run.{defined}
 use Rattle.lent_mmio_regions.proofs.AnswerLaws.{defined-answer}
 use Rattle.lent_mmio_regions.proofs.Calls.{vals, calls-value, calls-lent}
-use Rattle.lent_mmio_regions.proofs.RunCalls.{seen-vals, Requests, to-request, goes-request, said-request, Surveys}
-use Rattle.lent_mmio_regions.proofs.RunCalls.{to-survey, goes-survey, said-survey}
+use Rattle.lent_mmio_regions.proofs.RunCalls.{seen-vals, Requests, to-request, goes-request, said-request, Surveys, to-survey, goes-survey, said-survey}
 use Rattle.mmio_region_survey.proofs.requested.Symbol as requests-def
 use Rattle.mmio_region_survey.proofs.requested.Symbol.{name as #requests}
 use Rattle.mmio_region_survey.proofs.requested.Met as requests-thm
@@ -151,7 +149,7 @@ module _ {M : Type 1} (𝓤 : URA M) (H : Heap 𝓤) (A : Atoms 𝓤) (W : Given
   said-answer d = exE 𝓤 _ (λ ws. snd∗ 𝓤 (sem 𝓤 H A (lasts answers.ended tt (seen, (base, (size, tt))) ws)) (fact 𝓤 (d ≡ answer)))
 
   module _ (C : Calls 𝓤 H) (Λ : Loops 𝓤 H) (fm : FmC 𝓤 H (W .laws) C) (asks : Triple 𝓤 (C #requests) (Requests 𝓤 H A at-mem run))
-      (looks : Triple 𝓤 (C #surveys) (Surveys 𝓤 H A at-mem run)) (answered : Triple 𝓤 (C #answers) (Answers 𝓤 H A at-mem run)) where
+      (looks : Triple 𝓤 (C #surveys) (Surveys 𝓤 H A at-mem run)) (replied : Triple 𝓤 (C #answers) (Answers 𝓤 H A at-mem run)) where
     walk : ent 𝓤 (onEntry 𝓤 H A f.signature (κ, tt) (q, tt) a at)
         (WpFn 𝓤 H C Λ code.function (s ∷ vint w64 n ∷ vint w64 base ∷ vint w64 size ∷ []) Post)
     walk =
@@ -179,7 +177,7 @@ module _ {M : Type 1} (𝓤 : URA M) (H : Heap 𝓤) (A : Atoms 𝓤) (W : Given
         (said-survey 𝓤 H A W at-mem run κ q b o γ ys n query) (λ v. id⊢ 𝓤 _) (λ iss.
         -- [the token; true; _6; …]
         land ! (from ! (stop !)) (init ! 2 refl (LL.lawful S.the-type S′.the-laws 𝓤 H A W .typed seen _ iss .0)) $
-        calls-value ! fm (Answers 𝓤 H A at-mem run) answered to-answer (goes-answer iss)
+        calls-value ! fm (Answers 𝓤 H A at-mem run) replied to-answer (goes-answer iss)
         (and-then ! (load ! (from ! (stop !)) (look ! 2 refl)) (and-then ! (load ! (from ! (stop !)) (look ! 8 refl))
         (and-then ! (load ! (from ! (stop !)) (look ! 6 refl)) (no-more !))))
         D.the-row (LL.val D.the-type D′.the-laws) (LL.tells D.the-type D′.the-laws) answer said-answer (λ w. id⊢ 𝓤 _) (λ isd.
@@ -194,18 +192,18 @@ module _ {M : Type 1} (𝓤 : URA M) (H : Heap 𝓤) (A : Atoms 𝓤) (W : Given
   walks : (𝓣 : Tables 𝓤 H) → Triple 𝓤 (𝓣 .C #requests) (Requests 𝓤 H A at-mem run) → Triple 𝓤 (𝓣 .C #surveys) (Surveys 𝓤 H A at-mem run)
       → Triple 𝓤 (𝓣 .C #answers) (Answers 𝓤 H A at-mem run)
       → Walks 𝓤 H A f.ended stayed (WpFn 𝓤 H (𝓣 .C) (𝓣 .Λ) code.function) (f.clauses 𝓤 H A at-mem run)
-  walks 𝓣 asks looks answered =
+  walks 𝓣 asks looks replied =
       walked 𝓤 H A f.ended stayed (f.clauses 𝓤 H A at-mem run) (WpFn 𝓤 H (𝓣 .C) (𝓣 .Λ) code.function)
       (λ κs. (slice-vals, (uint-vals w64, (uint-vals w64, (uint-vals w64, tt)))))
       (λ κs. (shr-slice-tells (named 0) (κs .0) R.the-row, (uint-tells w64, (uint-tells w64, (uint-tells w64, tt)))))
       (λ κs qs bounds a g are. via 𝓤 _ (fst∗ 𝓤 _ (emp 𝓤))
       (walk 𝓤 H A W at-mem run (κs .0) (qs .0) (a .0 .ptr .0) (a .0 .ptr .1) (a .0 .name) (a .0 .now) (a .1 .0) (a .1 .1 .0) (a .1 .1 .1 .0)
-      (are .0 .0 .1) (are .1 .0 .1) (are .1 .1 .0 .1) (are .1 .1 .1 .0 .1) (𝓣 .C) (𝓣 .Λ) (fmOf 𝓤 H (W .laws) 𝓣) asks looks answered))
+      (are .0 .0 .1) (are .1 .0 .1) (are .1 .1 .0 .1) (are .1 .1 .1 .0 .1) (𝓣 .C) (𝓣 .Λ) (fmOf 𝓤 H (W .laws) 𝓣) asks looks replied))
 
   meets : (𝓣 : Tables 𝓤 H) → Triple 𝓤 (𝓣 .C #requests) (Requests 𝓤 H A at-mem run) → Triple 𝓤 (𝓣 .C #surveys) (Surveys 𝓤 H A at-mem run)
       → Triple 𝓤 (𝓣 .C #answers) (Answers 𝓤 H A at-mem run)
       → Meets 𝓤 H A f.signature (WpFn 𝓤 H (𝓣 .C) (𝓣 .Λ) code.function) (f.spec 𝓤 H A at-mem run)
-  meets 𝓣 asks looks answered =
+  meets 𝓣 asks looks replied =
       walk-meets 𝓤 H A f.ended stayed W (
         goes-dropped 𝓤 H A W 1 slice-slot yes (λ κs x f. refl),
         (
@@ -221,7 +219,7 @@ module _ {M : Type 1} (𝓤 : URA M) (H : Heap 𝓤) (A : Atoms 𝓤) (W : Given
         ),
       )
       (f.clauses 𝓤 H A at-mem run) (WpFn 𝓤 H (𝓣 .C) (𝓣 .Λ) code.function) (WpFn-mono 𝓤 H (W .laws) 𝓣 code.function)
-      (walks 𝓣 asks looks answered)
+      (walks 𝓣 asks looks replied)
 
 pub lent-is-mmio-region-defined-spec : {M : Type 1} → stated.statement M
 unfolding code.routine tablesOf

@@ -20,13 +20,11 @@ use prog.Wp.{Heap, Env, Calls, Loops}
 use ghost.Atoms.{Atoms, sem}
 use contract.Monad.{Fun, fact, factI}
 use contract.Running.{givenOf, tables, tablesOf}
-use types.Kit.{Given, ‵, raw, _⊛_, some, later, ⋆, atRet, _$_, _∵_, !, qed, by, move, keep, drop, use1, use2, use3, split, join, pick}
-use types.Kit.{rewrite, fsplit, fjoin, feqL, frame, await, done}
+use types.Kit.{Given, ‵, raw, _⊛_, some, later, ⋆, atRet, _$_, _∵_, !, qed, by, move, keep, drop, use1, use2, use3, split, join, pick, rewrite, fsplit, fjoin, feqL, frame, await, done}
 use types.Part.{agg, whole, sub, look-in}
 use types.SemTy.{cells, Arr}
 use types.Tokens.{lft-new, lft-end}
-use types.Run.{look, init, forget, stop, hop, fld, from, load, addr, lit, bin, and-then, no-more, assigns, land}
-use types.Run.{first, skips, branches, returns, returns-within, free1, free0, exec}
+use types.Run.{look, init, forget, stop, hop, fld, from, load, addr, lit, bin, and-then, no-more, assigns, land, first, skips, branches, returns, returns-within, free1, free0, exec}
 use denote.Lend.{Held, lends-slice, slice-back}
 use denote.Memory.{mem, pointee}
 use denote.Plain.{uint-makes, uint-tells, uint-lawful}
@@ -57,7 +55,7 @@ use Rattle.mmio_region_survey.proofs.Changed as D
 use Rattle.mmio_region_survey.proofs.Changed.Laws as D′
 use Rattle.mmio_regions.specs.Regions.{withRemoved}
 use Rattle.mmio_region_survey.specs.Survey.{refusal, changed}
-use Rattle.lent_mmio_regions.specs.Run.{standing, run as runOf, relaid, outcome, removed}
+use Rattle.lent_mmio_regions.specs.Run.{standing, run as runOf, relaid, runChange, removed}
 use Rattle.lent_mmio_regions.proofs.AnswerLaws.{remove-room, remove-done, remove-refused}
 use Rattle.lent_mmio_regions.proofs.Calls.{vals, calls-value}
 use Rattle.lent_mmio_regions.proofs.RunCalls.{Fits, seen-vals, fails, Requests, Surveys}
@@ -119,7 +117,7 @@ module _ {M : Type 1} (𝓤 : URA M) (H : Heap 𝓤) (A : Atoms 𝓤) (W : Given
 
   -- the borrow is closed at a run that is what is promised
   exits : (zs : List ConfidentialVmMmioRegion) → length zs ≡ length ys → (d : Changed) → Is D.the-row d (LL.vals D.the-type D′.the-laws d)
-      → outcome d zs ≡ removed ys n base size
+      → runChange d zs ≡ removed ys n base size
       → ent 𝓤 (⋆ 𝓤 H A (walk.Closed word mutable-reference mutable body.t-5 𝓤 H A W at-mem run
       (f.clauses 𝓤 H A at-mem run) κ q b o γ ys n base size zs)) (Post (D′.lowered d))
   exits zs len d isd e = walk.exits word mutable-reference mutable body.t-5 𝓤 H A W at-mem run

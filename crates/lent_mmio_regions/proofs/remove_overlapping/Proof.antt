@@ -25,8 +25,7 @@ use prog.Wp.{Heap, Out, Env, afterSeq, afterBlock, afterTurn, Wp, atReturn, WpFn
 use ghost.Atoms.{Atoms, sem}
 use contract.Monad.{Fun, fact}
 use contract.Running.{givenOf, tables, tablesOf}
-use types.Kit.{Given, Item, ‵, _⊛_, ⋆, runs, anyQ, atRet, Sq, _$_, _∵_, !, qed, by, move, drop}
-use types.Kit.{split, join, rewrite, fsplit, fjoin, suffices, frame, done}
+use types.Kit.{Given, Item, ‵, _⊛_, ⋆, runs, anyQ, atRet, Sq, _$_, _∵_, !, qed, by, move, drop, split, join, rewrite, fsplit, fjoin, suffices, frame, done}
 use types.Part.{agg, whole, sub, look-in}
 use types.Run.{
   look,

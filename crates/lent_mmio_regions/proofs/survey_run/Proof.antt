@@ -20,8 +20,7 @@ use contract.Monad.{Fun, fact}
 use contract.Running.{givenOf, tables, tablesOf}
 use types.Kit.{Given, ‵, _⊛_, _$_, _∵_, !, qed, by, move, drop, use1, split, join, fsplit, fjoin, suffices, frame, done}
 use types.Part.{whole, sub, look-in}
-use types.Run.{look, init, forget, stop, fld, from, load, of-opd, and-then, no-more, assigns, land, returns, enter, alloc1, alloc0, params1}
-use types.Run.{pass1, pass0, free1, free0}
+use types.Run.{look, init, forget, stop, fld, from, load, of-opd, and-then, no-more, assigns, land, returns, enter, alloc1, alloc0, params1, pass1, pass0, free1, free0}
 use sound.WpLaws.{fmOf, WpFn-mono}
 use denote.RattleType.{owns}
 use denote.Laws.{Is}
@@ -66,9 +65,8 @@ use Rattle.lent_mmio_regions.proofs.join_unused as j
 use Rattle.lent_mmio_regions.proofs.join_unused.Symbol as j-def
 use Rattle.lent_mmio_regions.proofs.join_unused.Symbol.{name as #j}
 use Rattle.lent_mmio_regions.proofs.join_unused.Met as j-thm
-use Rattle.lent_mmio_regions.proofs.Calls.{calls-value, calls-lent}
+use Rattle.lent_mmio_regions.proofs.Calls.{calls-value, calls-lent, vals}
 use Rattle.lent_mmio_regions.proofs.SurveyLaws.{places-within, standing-within}
-use Rattle.lent_mmio_regions.proofs.Calls.{vals}
 use Rattle.lent_mmio_regions.proofs.survey_run.Key.{name as #f}
 use Rattle.lent_mmio_regions.proofs.survey_run as f
 use Rattle.lent_mmio_regions.proofs.survey_run.Statement as stated

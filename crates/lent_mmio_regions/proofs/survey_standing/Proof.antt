@@ -50,10 +50,9 @@ use Rattle.mmio_region_survey.proofs.Survey.with as g
 use Rattle.mmio_region_survey.proofs.Survey.with.Symbol as g-def
 use Rattle.mmio_region_survey.proofs.Survey.with.Symbol.{name as #g}
 use Rattle.mmio_region_survey.proofs.Survey.with.Met as g-thm
-use Rattle.lent_mmio_regions.proofs.Calls.{calls-value}
+use Rattle.lent_mmio_regions.proofs.Calls.{calls-value, vals}
 use Rattle.lent_mmio_regions.proofs.SurveyLaws.{seen-next, seen-all}
 use Rattle.lent_mmio_regions.proofs.Scan.{scans}
-use Rattle.lent_mmio_regions.proofs.Calls.{vals}
 use Rattle.lent_mmio_regions.proofs.survey_standing.Key.{name as #f}
 use Rattle.lent_mmio_regions.proofs.survey_standing as f
 use Rattle.lent_mmio_regions.proofs.survey_standing.Statement as stated

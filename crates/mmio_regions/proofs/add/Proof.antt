@@ -1,7 +1,7 @@
 -- `mmio_regions::add` meets its contract. Assumes nothing.
 use mathlib.Core.Path.{ap, _∙_}
 use borrow.Author.Needs.{needs}
-use Rattle.mmio_regions.specs.Table.{outcome}
+use Rattle.mmio_regions.specs.Table.{addition}
 use Rattle.mmio_regions.proofs.AddLaws.{add-full, add-overlapping, add-done}
 use Rattle.mmio_regions.proofs.add.Statement.{statement}
 use Rattle.mmio_regions.proofs.add.Tie as tie
@@ -18,7 +18,7 @@ returns-3 : tie.Need-returns-3
 returns-3 c =
     let tested = c .before .before .before .before in
     let asked = tested .before in
-    ap (outcome _) (c .before .before .set-region .ensures)
+    ap (addition _) (c .before .before .set-region .ensures)
     ∙ add-done _ _ _ (asked .before .before .before .before .pre) (search needs) _ (asked .overlaps-any .ensures) (tested .if2 .left)
 
 pub add-spec : {M : Type 1} → statement M

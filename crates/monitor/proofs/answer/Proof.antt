@@ -1,6 +1,5 @@
 -- `monitor::answer` meets its contract: what waits to be written stays within the buffer. Assumes nothing.
-use mathlib.Core.Path.{_≡_}
-use Prim.Native.Nat.{_-_, _+_, _≤_}
+use Prim.Native.Nat.{_-_}
 use lib.ListN.{length}
 use native.Mathlib.Omega.{arith}
 use borrow.Rule.Slice.PartMut.{same-len-mid}
@@ -13,11 +12,11 @@ sub-answer-line c = c .before .before .before .before .before .before .before .b
 
 longer-requires : tie.Need-longer-requires
 longer-requires c κs =
-    let answered = c .before .before .before .before .before .before .before .before .before .before .before .before .before .before .before in
-    let roomy = answered .before .before .before .before .before .before .before .before .before .before .before .before .before in
+    let replied = c .before .before .before .before .before .before .before .before .before .before .before .before .before .before .before in
+    let roomy = replied .before .before .before .before .before .before .before .before .before .before .before .before .before in
     let start = roomy .before .before .before .before .before .before .before .before .before .before .before in
-    let kept = same-len-mid (roomy .make-room .result .waiting) (length (start .args .output .now) - roomy .make-room .result .waiting) (start .args .output .now) (answered .answer-line .last .1 .1 .1 .1 .1 .1 .1 .1 .0) (answered .answer-line .kept .1 .1 .1 .1 .1 .1 .1 .1 .0) in
-    rw kept (answered-within _ _ _ _ (start .args .output .now) _ (roomy .make-room .ensures) (answered .answer-line .ensures))
+    let kept = same-len-mid (roomy .make-room .result .waiting) (length (start .args .output .now) - roomy .make-room .result .waiting) (start .args .output .now) (replied .answer-line .last .1 .1 .1 .1 .1 .1 .1 .1 .0) (replied .answer-line .kept .1 .1 .1 .1 .1 .1 .1 .1 .0) in
+    rw kept (answered-within _ _ _ _ (start .args .output .now) _ (roomy .make-room .ensures) (replied .answer-line .ensures))
 
 same-length : tie.Need-same-length
 same-length c = c .before .before .before .before .before .before .before .before .before .before .before .before .before .before .before .before .before .before .before .before .before .before .before .before .before .before .before .request .kept .1 .0
@@ -42,17 +41,17 @@ same-length-7 c = c .before .before .before .before .before .before .before .bef
 
 same-length-8 : tie.Need-same-length-8
 same-length-8 c =
-    let answered = c .before .before .before .before .before .before .before .before .before .before .before .before .before .before .before .before .before in
-    let roomy = answered .before .before .before .before .before .before .before .before .before .before .before .before .before in
+    let replied = c .before .before .before .before .before .before .before .before .before .before .before .before .before .before .before .before .before in
+    let roomy = replied .before .before .before .before .before .before .before .before .before .before .before .before .before in
     let start = roomy .before .before .before .before .before .before .before .before .before .before .before in
-    same-len-mid (roomy .make-room .result .waiting) (length (start .args .output .now) - roomy .make-room .result .waiting) (start .args .output .now) (answered .answer-line .last .1 .1 .1 .1 .1 .1 .1 .1 .0) (answered .answer-line .kept .1 .1 .1 .1 .1 .1 .1 .1 .0)
+    same-len-mid (roomy .make-room .result .waiting) (length (start .args .output .now) - roomy .make-room .result .waiting) (start .args .output .now) (replied .answer-line .last .1 .1 .1 .1 .1 .1 .1 .1 .0) (replied .answer-line .kept .1 .1 .1 .1 .1 .1 .1 .1 .0)
 
 returns-2 : tie.Need-returns-2
 returns-2 c =
-    let answered = c .before .before .before .before .before .before .before .before .before .before .before .before .before .before .before .before .before in
-    let roomy = answered .before .before .before .before .before .before .before .before .before .before .before .before .before in
+    let replied = c .before .before .before .before .before .before .before .before .before .before .before .before .before .before .before .before .before in
+    let roomy = replied .before .before .before .before .before .before .before .before .before .before .before .before .before in
     let start = roomy .before .before .before .before .before .before .before .before .before .before .before in
-    rw (c .before .longer .ensures) (answered-within _ _ _ _ (start .args .output .now) _ (roomy .make-room .ensures) (answered .answer-line .ensures))
+    rw (c .before .longer .ensures) (answered-within _ _ _ _ (start .args .output .now) _ (roomy .make-room .ensures) (replied .answer-line .ensures))
 
 pub answer-spec : {M : Type 1} → statement M
 answer-spec =

@@ -36,19 +36,19 @@ loop-less c = omega arith
 
 loop-again : tie.Need-loop-again Inv-loop μ-loop
 loop-again c =
-    let answered = c .before .before .before .before .before .before .before .before .before .before .before .before .before .before .before .before .before in
-    let read = answered .before .before .before .before .before .before .before .before .before .before .before in
+    let replied = c .before .before .before .before .before .before .before .before .before .before .before .before .before .before .before .before .before in
+    let read = replied .before .before .before .before .before .before .before .before .before .before .before in
     let turn = read .before .before .before .before .before in (
       c .next-line .ensures .1,
-      rw (answered .answer .kept .1 .1 .1 .1 .1 .1 .1 .1 .1 .0) (answered .answer .ensures),
-      answered .answer .kept .1 .1 .0 ∙ read .read .kept .1 .1 .0 ∙ turn .loop .inv .2,
-      answered .answer .kept .1 .1 .1 .0 ∙ turn .loop .inv .3,
-      answered .answer .kept .1 .1 .1 .1 .0 ∙ turn .loop .inv .4,
-      answered .answer .kept .1 .1 .1 .1 .1 .0 ∙ turn .loop .inv .5,
-      answered .answer .kept .1 .1 .1 .1 .1 .1 .0 ∙ turn .loop .inv .6,
-      answered .answer .kept .1 .1 .1 .1 .1 .1 .1 .0 ∙ turn .loop .inv .7,
-      answered .answer .kept .1 .1 .1 .1 .1 .1 .1 .1 .0 ∙ turn .loop .inv .8,
-      answered .answer .kept .1 .1 .1 .1 .1 .1 .1 .1 .1 .0 ∙ turn .loop .inv .9,
+      rw (replied .answer .kept .1 .1 .1 .1 .1 .1 .1 .1 .1 .0) (replied .answer .ensures),
+      replied .answer .kept .1 .1 .0 ∙ read .read .kept .1 .1 .0 ∙ turn .loop .inv .2,
+      replied .answer .kept .1 .1 .1 .0 ∙ turn .loop .inv .3,
+      replied .answer .kept .1 .1 .1 .1 .0 ∙ turn .loop .inv .4,
+      replied .answer .kept .1 .1 .1 .1 .1 .0 ∙ turn .loop .inv .5,
+      replied .answer .kept .1 .1 .1 .1 .1 .1 .0 ∙ turn .loop .inv .6,
+      replied .answer .kept .1 .1 .1 .1 .1 .1 .1 .0 ∙ turn .loop .inv .7,
+      replied .answer .kept .1 .1 .1 .1 .1 .1 .1 .1 .0 ∙ turn .loop .inv .8,
+      replied .answer .kept .1 .1 .1 .1 .1 .1 .1 .1 .1 .0 ∙ turn .loop .inv .9,
     )
 
 pub block-spec : {M : Type 1} → statement M

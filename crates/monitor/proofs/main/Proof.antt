@@ -38,19 +38,19 @@ block-requires c κs =
 
 loop-again : tie.Need-loop-again Inv-loop μ-loop
 loop-again c =
-    let answered = c .before .before .before .before .before .before .before .before .before in
-    let ended = answered .before .before .before .before .before .before .before .before .before .before .before in
+    let replied = c .before .before .before .before .before .before .before .before .before in
+    let ended = replied .before .before .before .before .before .before .before .before .before .before .before in
     let turn = ended .before .before .before .before .before .before .before .before .before .before in (
-      rw (c .counted .ensures .1, answered .block .kept .1 .1 .1 .1 .1 .1 .1 .1 .1 .1 .0) (answered .block .ensures),
+      rw (c .counted .ensures .1, replied .block .kept .1 .1 .1 .1 .1 .1 .1 .1 .1 .1 .0) (replied .block .ensures),
       ended .end-line .kept .1 .1 .0 ∙ ended .before .before .before .before .before .before .read .kept .1 .0 ∙ turn .loop .inv .1,
-      answered .block .kept .1 .1 .1 .1 .1 .1 .1 .1 .1 .1 .0 ∙ turn .loop .inv .2,
-      answered .block .kept .1 .1 .1 .0 ∙ turn .loop .inv .3,
-      answered .block .kept .1 .1 .1 .1 .0 ∙ turn .loop .inv .4,
-      answered .block .kept .1 .1 .1 .1 .1 .0 ∙ turn .loop .inv .5,
-      answered .block .kept .1 .1 .1 .1 .1 .1 .0 ∙ turn .loop .inv .6,
-      answered .block .kept .1 .1 .1 .1 .1 .1 .1 .0 ∙ turn .loop .inv .7,
-      answered .block .kept .1 .1 .1 .1 .1 .1 .1 .1 .0 ∙ turn .loop .inv .8,
-      answered .block .kept .1 .1 .1 .1 .1 .1 .1 .1 .1 .0 ∙ turn .loop .inv .9,
+      replied .block .kept .1 .1 .1 .1 .1 .1 .1 .1 .1 .1 .0 ∙ turn .loop .inv .2,
+      replied .block .kept .1 .1 .1 .0 ∙ turn .loop .inv .3,
+      replied .block .kept .1 .1 .1 .1 .0 ∙ turn .loop .inv .4,
+      replied .block .kept .1 .1 .1 .1 .1 .0 ∙ turn .loop .inv .5,
+      replied .block .kept .1 .1 .1 .1 .1 .1 .0 ∙ turn .loop .inv .6,
+      replied .block .kept .1 .1 .1 .1 .1 .1 .1 .0 ∙ turn .loop .inv .7,
+      replied .block .kept .1 .1 .1 .1 .1 .1 .1 .1 .0 ∙ turn .loop .inv .8,
+      replied .block .kept .1 .1 .1 .1 .1 .1 .1 .1 .1 .0 ∙ turn .loop .inv .9,
     )
 
 pub main-spec : {M : Type 1} → statement M

@@ -2,7 +2,7 @@
 use mathlib.Core.Path.{refl}
 use borrow.Author.Tests.{lt-ltb, le-ltb}
 use Rattle.table_rows.proofs.PickLaws.{yes, no}
-use Rattle.monitor_exports.proofs.FlowExportLaws.{flow-value-told}
+use Rattle.monitor_exports.proofs.ReplyLaws.{reply-value-told}
 use borrow.Author.Needs.{needs}
 use Rattle.monitor_exports.proofs.oudrameng_resume_confidential_hart_execution.Statement.{statement}
 use Rattle.monitor_exports.proofs.oudrameng_resume_confidential_hart_execution.Tie as tie
@@ -13,8 +13,8 @@ returns c = yes _ (lt-ltb _ _ (c .if1 .taken)) refl
 returns-2 : tie.Need-returns-2
 returns-2 c =
     no _ (le-ltb _ _ (c .before .before .before .before .before .before .before .before .before .before .before .before .before .before .if1 .left))
-    (flow-value-told (c .before .before .before .before .before .before .before .before .before .before .before .before .before .before .before .before .before .before .before .before .before .before .args .value .now)
-    (c .before .before .before .before .before .before .before .before .before .before .resume-confidential-hart-execution .ensures) (c .before .before .tell-flow .ensures))
+    (reply-value-told (c .before .before .before .before .before .before .before .before .before .before .before .before .before .before .before .before .before .before .before .before .before .before .args .value .now)
+    (c .before .before .before .before .before .before .before .before .before .before .resume-confidential-hart-execution .ensures) (c .before .before .tell-reply .ensures))
 
 pub oudrameng-resume-confidential-hart-execution-spec : {M : Type 1} → statement M
 oudrameng-resume-confidential-hart-execution-spec =

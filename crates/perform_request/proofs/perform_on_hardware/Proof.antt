@@ -1,5 +1,5 @@
 -- `perform_request::perform_on_hardware` meets its contract: case by case, what the entry of the request gives. Assumes nothing.
-use Rattle.perform_request.proofs.LentLaws.{alone-home}
+use Rattle.perform_request.proofs.ArmLaws.{alone-home}
 use borrow.Author.Needs.{needs}
 use Rattle.perform_request.proofs.perform_on_hardware.Statement.{statement}
 use Rattle.perform_request.proofs.perform_on_hardware.Tie as tie

@@ -3,7 +3,7 @@ use mathlib.Core.Path.{refl, sym, _∙_, ap}
 use borrow.Author.Tests.{le-leb, lt-leb}
 use Rattle.error.specs.Error.{done}
 use Rattle.table_rows.proofs.PickLaws.{yes, no}
-use Rattle.remote_commands.specs.Queue.{offered, outcome}
+use Rattle.remote_commands.specs.Queue.{offered, offer}
 use borrow.Author.Needs.{needs}
 use Rattle.remote_commands.proofs.offer.Statement.{statement}
 use Rattle.remote_commands.proofs.offer.Tie as tie
@@ -25,7 +25,7 @@ returns-3 c =
     let t = p .before .before in
     let f = t .before in
     no _ (lt-leb _ _ (f .before .before .if1 .left))
-    (no _ (sym (f .find .ensures) ∙ t .if2 .left) (ap (outcome done) (p .push .ensures)))
+    (no _ (sym (f .find .ensures) ∙ t .if2 .left) (ap (offer done) (p .push .ensures)))
 
 pub offer-spec : {M : Type 1} → statement M
 offer-spec =

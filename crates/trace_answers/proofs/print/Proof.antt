@@ -34,15 +34,15 @@ put-byte-requires c κs =
 returns-2 : tie.Need-returns-2
 unfolding printed
 returns-2 c =
-    let answered = c .before .before .before .before .before .before in
-    let did = answered .before .before .before .before in
+    let replied = c .before .before .before .before .before .before in
+    let did = replied .before .before .before .before in
     let tested = did .before .before in
     let start = tested .before .before .before .before .before in
     let can = sym (tested .before .is-printable .ensures) ∙ not-false _ (tested .if1 .left) in
     let p = printable-is _ _ _ can in
     printed-put _ _ _ can
     (put-then (omega arith) (did .put-all-did .ensures)
-    (put-then (omega (arith, dids-most (start .args .effects .now) (start .args .answer .did))) (answered .put-answer .ensures)
+    (put-then (omega (arith, dids-most (start .args .effects .now) (start .args .answer .did))) (replied .put-answer .ensures)
     (c .before .before .put-byte .ensures)))
 
 pub print-spec : {M : Type 1} → statement M

@@ -1,7 +1,6 @@
 -- `trace_rendering::put_setup` meets its contract: its word and its numbers are put. Assumes nothing.
 use mathlib.Core.Path.{refl}
-use Rattle.monitor_requests.specs.declared.Request.the-variants.{Setup}
-use Rattle.flow_requests.specs.declared.FlowRequest.the-variants.{Plain}
+use Rattle.trace_requests.specs.declared.TraceLine.the-variants.{SetUp}
 use Rattle.trace_requests.specs.Lines.{spelling}
 use Rattle.trace_rendering.proofs.RenderedLaws.{in-case}
 use borrow.Author.Needs.{needs}
@@ -12,7 +11,7 @@ returns : tie.Need-returns
 unfolding spelling
 returns c =
     let s = c .before .before .before .before .before .before .args .s in
-    in-case {request = Plain (Setup s)} refl (c .before .before .put-line .ensures)
+    in-case {request = SetUp s} refl (c .before .before .put-line .ensures)
 
 pub put-setup-spec : {M : Type 1} → statement M
 put-setup-spec =

@@ -9,7 +9,7 @@ returns : tie.Need-returns
 returns c = nothing-put _ _ (c .if1 .taken)
 
 returns-2 : tie.Need-returns-2
-returns-2 c = line-put _ _ (omega arith) (c .before .before .put-request .ensures)
+returns-2 c = line-put _ _ (omega arith) (c .before .before .put-trace-line .ensures)
 
 pub render-spec : {M : Type 1} → statement M
 render-spec = tie.close (tie.spec returns (λ c κs. search needs) (λ c. search needs) returns-2)

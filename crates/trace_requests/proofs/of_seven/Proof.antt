@@ -11,9 +11,9 @@ unfolding ofSeven spelling
 of-seven-spec =
     tie.close
     (tie.spec
-    (λ c κs. search needs)
     (λ c. search by-word depth 12)
     (λ c κs. search needs)
     (λ c. search by-word depth 12)
+    (λ c κs. search needs)
     (λ c. search by-word depth 12)
     (λ c. search by-word depth 12))

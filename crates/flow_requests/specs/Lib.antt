@@ -1,3 +1,0 @@
--- The definitions that the promises of the flow cite.
-pub mod FlowRequests
-pub mod FlowWrites
