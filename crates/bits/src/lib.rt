@@ -2,6 +2,8 @@
 // SPDX-FileContributor: Wojciech Ozga <woz@zurich.ibm.com>, IBM Research - Zurich
 // SPDX-License-Identifier: Apache-2.0
 // Changed: ported to Rattle from core/architecture/mod.rs, with a function each to clear and to set a bit.
+#![tactic(auto)]
+
 ghost use Rattle.std.specs.Prelude.{◌≡◌, ◌<◌, eqb};
 ghost use Rattle.bits.specs.Bit.{bit, clear_bit, set_bit};
 

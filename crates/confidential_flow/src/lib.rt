@@ -4,6 +4,8 @@
 // Changed: ported to Rattle from `set_resumable_operation` and `resume_confidential_hart_execution` of confidential_flow/finite_state_machine.rs.
 // The flow's hart is the one that a hardware hart holds in the lent tables. Each entry takes any numbers and any tables; the function above it
 // is for sound tables.
+#![tactic(auto)]
+
 ghost use Rattle.std.specs.Prelude.{◌≡◌, [], true};
 ghost use Rattle.confidential_hart.specs.Hart.{is_operation};
 ghost use Rattle.monitor_requests.specs.declared.Request.TheVariants.{Await, Resume};

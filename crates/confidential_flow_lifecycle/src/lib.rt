@@ -3,6 +3,8 @@
 // SPDX-License-Identifier: Apache-2.0
 // Changed: ported to Rattle from the lifecycle transitions of confidential_flow/finite_state_machine.rs. The flow's hart is the one that a
 // hardware hart holds in the lent tables. Each entry takes any numbers and any tables; the function above it is for sound tables.
+#![tactic(auto)]
+
 ghost use Rattle.std.specs.Prelude.{◌≡◌, [], true};
 ghost use Rattle.monitor_requests.specs.declared.Request.TheVariants.{Suspend, Stop, Wake, Off};
 ghost use Rattle.monitor_requests.specs.Tables.{sound, Sized};

@@ -3,6 +3,8 @@
 // SPDX-License-Identifier: Apache-2.0
 // Changed: ported to Rattle from the remote commands of confidential_flow/finite_state_machine.rs. The tables and the room for effects are lent.
 // Each entry takes any numbers and any tables; the function above it is for sound tables.
+#![tactic(auto)]
+
 ghost use Rattle.std.specs.Prelude.{◌≡◌, true};
 ghost use Rattle.monitor_requests.specs.Tables.{sound, Sized};
 ghost use Rattle.monitor_requests.specs.LentTables.{lent, before, after};

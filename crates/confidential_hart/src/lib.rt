@@ -3,6 +3,8 @@
 // SPDX-License-Identifier: Apache-2.0
 // Changed: ported to Rattle from core/control_data/confidential_hart.rs, with numbers of core/architecture/riscv/specification.rs. A record
 // has the six registers that the hart tables need, and each transition is a step by value.
+#![tactic(auto)]
+
 ghost use Rattle.std.specs.Prelude.{◌≡◌, ◌<◌, length};
 ghost use Rattle.confidential_hart.specs.Hart.{no_operation, hart_of, is_dummy, with_operation, well_formed, dummy, reset_hart, boot_hart};
 ghost use Rattle.hart_lifecycle_state.specs.Lifecycle.{changes, change_of};

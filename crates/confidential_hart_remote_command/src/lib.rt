@@ -2,6 +2,8 @@
 // SPDX-FileContributor: Wojciech Ozga <woz@zurich.ibm.com>, IBM Research - Zurich
 // SPDX-License-Identifier: Apache-2.0
 // Changed: ported to Rattle from core/control_data/confidential_hart_remote_command.rs: a command is six numbers.
+#![tactic(auto)]
+
 ghost use Rattle.std.specs.Prelude.{◌≡◌, length};
 ghost use Rattle.table_rows.specs.Choice.{pick};
 ghost use Rattle.confidential_hart_remote_command.specs.Command.{well_formed, same, from_words, to_words, command_words};

@@ -3,6 +3,8 @@
 // SPDX-License-Identifier: Apache-2.0
 // Changed: ported to Rattle from the context switches and the interrupts of core/control_data/confidential_vm.rs. The tables are lent. Each
 // entry takes any numbers and any tables; the function above it is for sound tables.
+#![tactic(auto)]
+
 ghost use Rattle.std.specs.Prelude.{◌≡◌, [], true};
 ghost use Rattle.monitor_requests.specs.declared.Request.TheVariants.{Steal, Return, Allow};
 ghost use Rattle.monitor_requests.specs.Tables.{sound, Sized};

@@ -3,6 +3,8 @@
 // SPDX-License-Identifier: Apache-2.0
 // Changed: ported to Rattle from the lifecycle of core/control_data/confidential_vm.rs. The tables are lent. Each entry takes any numbers and
 // any tables; the function above it is for sound tables.
+#![tactic(auto)]
+
 ghost use Rattle.std.specs.Prelude.{◌≡◌, [], true, not, ◌*◌, ◌≤◌, length};
 ghost use Rattle.table_rows.specs.Choice.{every};
 ghost use Rattle.confidential_hart.specs.Hart.{is_dummy};

@@ -3,6 +3,8 @@
 // SPDX-License-Identifier: Apache-2.0
 // Changed: ported to Rattle from `add_mmio_region`, `remove_mmio_region` and `is_mmio_region_defined` of
 // core/control_data/confidential_vm.rs. A region comes as its base and size, and each entry judges the tables first.
+#![tactic(auto)]
+
 ghost use Rattle.std.specs.Prelude.{◌≡◌, [], true};
 ghost use Rattle.monitor_requests.specs.declared.Request.TheVariants.{Add, Remove, Defined};
 ghost use Rattle.monitor_requests.specs.Tables.{sound, Sized};

@@ -3,6 +3,8 @@
 // SPDX-License-Identifier: Apache-2.0
 // Changed: ported to Rattle from `broadcast_remote_command` of core/control_data/confidential_vm.rs. The lazy fold over the harts is a loop
 // that stops at a full queue, and the tables are runs of words that the caller lends.
+#![tactic(auto)]
+
 ghost use Rattle.std.specs.Prelude.{◌≡◌, [], true, ◌+◌, ◌*◌, ◌≤◌, length};
 ghost use Rattle.remote_commands.specs.Queue.{queue_words};
 ghost use Rattle.hart_rows.specs.HartRows.{hart_words};

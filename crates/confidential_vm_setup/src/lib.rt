@@ -3,6 +3,8 @@
 // SPDX-License-Identifier: Apache-2.0
 // Changed: ported to Rattle from `ConfidentialVm::new` of core/control_data/confidential_vm.rs. The tables are lent runs of numbers, and the
 // harts are made here.
+#![tactic(auto)]
+
 ghost use Rattle.std.specs.Prelude.{◌≡◌, ◌*◌, ◌≤◌, [], ◌∷◌, length, replicate};
 ghost use Rattle.table_rows.specs.Rows.{rows_of, over};
 ghost use Rattle.confidential_hart.specs.Hart.{dummy};

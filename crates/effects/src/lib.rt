@@ -3,6 +3,8 @@
 // SPDX-License-Identifier: Apache-2.0
 // Changed: ported to Rattle from `execute` of core/control_data/confidential_hart.rs and the loop that calls it in
 // confidential_flow/finite_state_machine.rs. Doing a command writes an effect record, which the caller lends room for.
+#![tactic(auto)]
+
 ghost use Rattle.std.specs.Prelude.{◌≡◌, ◌+◌, ◌*◌, ◌≤◌, length};
 ghost use Rattle.table_rows.specs.Rows.{put, over};
 ghost use Rattle.remote_commands.specs.Queue.{max_commands, queue_words, count, commands};

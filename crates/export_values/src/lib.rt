@@ -1,4 +1,6 @@
 // What the C functions of the entries share: an answer's values over the front of a lent slice, and its number.
+#![tactic(auto)]
+
 ghost use Rattle.std.specs.Prelude.{◌≡◌, [], ◌∷◌, ◌≤◌, length};
 ghost use Rattle.table_rows.specs.Choice.{pick};
 ghost use Rattle.monitor_requests.specs.Answers.{word_values};

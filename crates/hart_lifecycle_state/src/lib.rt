@@ -3,6 +3,8 @@
 // SPDX-License-Identifier: Apache-2.0
 // Changed: ported to Rattle from core/architecture/riscv/hart_lifecycle_state.rs and the transitions of
 // core/control_data/confidential_hart.rs: states are numbers, and the transitions are one table.
+#![tactic(auto)]
+
 ghost use Rattle.std.specs.Prelude.{◌≡◌, ◌≤◌, ◌<◌, length};
 ghost use Rattle.hart_lifecycle_state.specs.Lifecycle.{powered_off, changes, change_of, entry_number};
 

@@ -1,4 +1,6 @@
 // Hart records as rows of a table.
+#![tactic(auto)]
+
 ghost use Rattle.std.specs.Prelude.{◌≡◌, ◌+◌, ◌*◌, ◌≤◌, length, get_or};
 ghost use Rattle.table_rows.specs.Rows.{put};
 ghost use Rattle.confidential_hart.specs.Hart.{well_formed};

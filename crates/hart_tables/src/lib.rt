@@ -3,6 +3,8 @@
 // SPDX-License-Identifier: Apache-2.0
 // Changed: ported to Rattle from the confidential harts of core/control_data/confidential_vm.rs and what it asks of
 // core/control_data/confidential_hart.rs. A table of harts is a lent run of rows, whose words are read in their place.
+#![tactic(auto)]
+
 ghost use Rattle.std.specs.Prelude.{◌≡◌, ◌+◌, ◌*◌, ◌≤◌, length};
 ghost use Rattle.table_rows.specs.Rows.{row, put};
 ghost use Rattle.confidential_hart.specs.Hart.{is_dummy, is_executable};

@@ -3,6 +3,8 @@
 // SPDX-License-Identifier: Apache-2.0
 // Changed: ported to Rattle from confidential_flow/finite_state_machine.rs: what the flow does to the hart that it holds, which is a row of the
 // hardware harts' table, and to that hart's queue.
+#![tactic(auto)]
+
 ghost use Rattle.std.specs.Prelude.{◌≡◌, ◌+◌, ◌*◌, ◌≤◌, length};
 ghost use Rattle.table_rows.specs.Rows.{row, put, over};
 ghost use Rattle.table_rows.specs.Choice.{pick};

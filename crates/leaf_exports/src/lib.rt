@@ -1,4 +1,6 @@
 // The leaves as C functions, so that `compare/` can run them beside the original Rust. Each promises what the function that it calls promises.
+#![tactic(auto)]
+
 ghost use Rattle.std.specs.Prelude.{◌≡◌, ◌*◌, ◌≤◌, length};
 ghost use Rattle.confidential_vm_mmio_region.specs.Region.{region_of, new_region};
 ghost use Rattle.mmio_regions.specs.Regions.{any_contains};

@@ -1,4 +1,6 @@
 // The steps of a run as code: a setup that is accepted starts one, any request goes on with it, and every row is the row worked out from the log.
+#![tactic(auto)]
+
 ghost use Rattle.monitor_requests.specs.LentTables.{before, after};
 ghost use Rattle.ledger_entries.specs.Steps.{Begun, Asked};
 

@@ -2,6 +2,8 @@
 // SPDX-FileContributor: Wojciech Ozga <woz@zurich.ibm.com>, IBM Research - Zurich
 // SPDX-License-Identifier: Apache-2.0
 // Changed: ported to Rattle from core/control_data/confidential_hart.rs. The transitions on a lent record, each by the step by value.
+#![tactic(auto)]
+
 ghost use Rattle.std.specs.Prelude.{◌≡◌};
 ghost use Rattle.confidential_hart.specs.Transition.{after_start, after_suspend, after_stop, after_wake, after_off};
 ghost use Rattle.lent_hart.specs.Lent.{left};

@@ -3,6 +3,8 @@
 // SPDX-License-Identifier: Apache-2.0
 // Changed: ported to Rattle from the MMIO regions of core/control_data/confidential_vm.rs. They are a lent run of
 // region records with a count.
+#![tactic(auto)]
+
 ghost use Rattle.std.specs.Prelude.{◌≡◌, ◌≤◌, length, take, drop};
 ghost use Rattle.mmio_region_survey.specs.Survey.{unseen, seen_through, joined_through, surveyed};
 ghost use Rattle.lent_mmio_regions.specs.Run.{run, without, run_change, added, removed, defined};

@@ -3,6 +3,8 @@
 // SPDX-License-Identifier: Apache-2.0
 // Changed: ported to Rattle from the MMIO regions of core/control_data/confidential_vm.rs. The steps by value of
 // the requests on a lent run of region records.
+#![tactic(auto)]
+
 ghost use Rattle.std.specs.Prelude.{◌≡◌, ◌+◌, ◌^◌, ◌<◌};
 ghost use Rattle.confidential_vm_mmio_region.specs.Region.{new_region};
 ghost use Rattle.mmio_region_survey.specs.Survey.{

@@ -2,6 +2,8 @@
 // SPDX-FileContributor: Wojciech Ozga <woz@zurich.ibm.com>, IBM Research - Zurich
 // SPDX-License-Identifier: Apache-2.0
 // Changed: ported to Rattle from the MMIO regions of core/control_data/confidential_vm.rs. They are a lent run of numbers with a count.
+#![tactic(auto)]
+
 ghost use Rattle.std.specs.Prelude.{◌≡◌, ◌+◌, ◌*◌, ◌^◌, ◌≤◌, ◌<◌, [], ◌∷◌, length};
 ghost use Rattle.table_rows.specs.Rows.{put};
 ghost use Rattle.table_rows.specs.Choice.{pick};

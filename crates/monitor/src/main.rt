@@ -1,5 +1,7 @@
 // The trace program: reads a trace on standard input, and prints the answers on standard output. It reads and writes in blocks, and keeps
 // nothing of the trace but its tables and the fields of the line that it is reading, so a trace and a line may have any length.
+#![tactic(auto)]
+
 ghost use Rattle.std.specs.Prelude.{◌≡◌, ◌+◌, ◌<◌, ◌≤◌, length};
 
 use effects::EFFECT_WORDS;

@@ -1,6 +1,8 @@
 // The entries of the tables and of the flow as C functions: plain numbers and lent tables in, and a lent room for effects where commands
 // are done, and document 01's number back. An answer's values go over the front of one more lent slice; those that do commands write
 // before them how many effect records they wrote. Each promises what the entry that it calls promises, for any numbers and any tables.
+#![tactic(auto)]
+
 ghost use Rattle.std.specs.Prelude.{◌≡◌, ◌≤◌, length};
 ghost use Rattle.table_rows.specs.Choice.{pick};
 ghost use Rattle.monitor_requests.specs.declared.Request.TheVariants.{Steal, Return, Start, Status, Home, Send, Allow, Add, Remove, Defined, Suspend, Stop, Wake, Off, Await, Broadcast, Process, Resume};

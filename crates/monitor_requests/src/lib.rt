@@ -4,6 +4,8 @@
 // Changed: ported to Rattle, with the limits of core/control_data/confidential_vm.rs: its methods and those of
 // confidential_flow/finite_state_machine.rs are requests, and what they give is an answer. What a request does is said once, in
 // `specs/Requests.antt`.
+#![tactic(auto)]
+
 ghost use Rattle.std.specs.Prelude.{◌≡◌, [], ◌∷◌};
 ghost use Rattle.error.specs.Error.{done};
 ghost use Rattle.monitor_requests.specs.declared.Word.TheVariants.{NoWord};

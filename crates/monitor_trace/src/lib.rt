@@ -1,4 +1,6 @@
 // A trace, line by line: what each does to the tables, and what is printed for it.
+#![tactic(auto)]
+
 ghost use Rattle.std.specs.Prelude.{◌≡◌};
 ghost use Rattle.monitor_requests.specs.LentTables.{before, after};
 ghost use Rattle.monitor_requests.specs.Requests.{replied};

@@ -1,4 +1,6 @@
 // Any request of the monitor on lent tables: the request's own entry performs it.
+#![tactic(auto)]
+
 ghost use Rattle.std.specs.Prelude.{◌≡◌, true, []};
 ghost use Rattle.monitor_requests.specs.LentTables.{before, after};
 ghost use Rattle.monitor_requests.specs.Requests.{answering, replied, performed, does_no_command};

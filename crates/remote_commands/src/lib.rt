@@ -3,6 +3,8 @@
 // SPDX-License-Identifier: Apache-2.0
 // Changed: ported to Rattle from the remote commands of core/control_data/confidential_vm.rs: one hart's queue is a row of words that the
 // caller lends.
+#![tactic(auto)]
+
 ghost use Rattle.std.specs.Prelude.{◌≡◌, ◌≤◌, ◌<◌, length};
 ghost use Rattle.table_rows.specs.Choice.{every};
 ghost use Rattle.confidential_hart_remote_command.specs.Command.{well_formed};

@@ -1,4 +1,6 @@
 // Whether the tables are sound: the judge that every request but setup asks first.
+#![tactic(auto)]
+
 ghost use Rattle.std.specs.Prelude.{◌≡◌, ◌+◌, ◌*◌, ◌≤◌, length};
 ghost use Rattle.table_rows.specs.Rows.{row};
 ghost use Rattle.table_rows.specs.Choice.{every};

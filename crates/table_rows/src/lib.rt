@@ -1,4 +1,6 @@
 // Tables as rows of `w` words in a lent run of numbers.
+#![tactic(auto)]
+
 ghost use Rattle.std.specs.Prelude.{◌≡◌, ◌+◌, ◌*◌, ◌≤◌, ◌<◌, length, set, replicate};
 ghost use Rattle.table_rows.specs.Rows.{word_at, row, put};
 ghost use Rattle.table_rows.specs.Choice.{all_zero};

@@ -1,4 +1,6 @@
 // What a trace prints for an answer: a line for each command that was done, then the number, the word and the details.
+#![tactic(auto)]
+
 ghost use Rattle.std.specs.Prelude.{◌≡◌, ◌∷◌, ◌+◌, ◌*◌, ◌≤◌, length};
 ghost use Rattle.table_rows.specs.Rows.{rows_of};
 ghost use Rattle.effects.specs.Effects.{effect_words};

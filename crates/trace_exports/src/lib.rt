@@ -1,4 +1,6 @@
 // A line read and written again, as a C function, so that it can be run beside the oracle.
+#![tactic(auto)]
+
 ghost use Rattle.trace_text.specs.Text.{printing};
 ghost use Rattle.std.specs.Prelude.{◌≡◌};
 ghost use Rattle.trace_exports.specs.TraceExports.{rewritten, Rewrites};

@@ -1,5 +1,7 @@
 // A line of a trace, read byte by byte into its fields: a word and numbers, parted by tabs. Nothing of the line is stored but its fields, so a
 // line may have any length.
+#![tactic(auto)]
+
 ghost use Rattle.std.specs.Prelude.{◌≡◌, ◌≤◌, ◌<◌};
 ghost use Rattle.trace_fields.specs.Fields.{start, spoilt, more, letter, digit, reading, closed, fed, read_on, field_count, is_empty};
 

@@ -1,4 +1,6 @@
 // A request as a line of a trace.
+#![tactic(auto)]
+
 ghost use Rattle.std.specs.Prelude.{◌≡◌, [], ◌∷◌, ◌^◌, ◌≤◌, ◌<◌, length};
 ghost use Rattle.confidential_hart_remote_command.specs.Command.{to_words};
 ghost use Rattle.trace_text.specs.Text.{word, line, Put, printing};

@@ -1,4 +1,6 @@
 // A line of a trace and its request.
+#![tactic(auto)]
+
 ghost use Rattle.std.specs.Prelude.{◌≡◌};
 ghost use Rattle.trace_fields.specs.Fields.{reading, closed, fields_in};
 ghost use Rattle.trace_requests.specs.Lines.{Reads};

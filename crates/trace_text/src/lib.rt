@@ -1,4 +1,6 @@
 // Text as bytes: words and plain decimals, written to a buffer that the caller lends.
+#![tactic(auto)]
+
 ghost use Rattle.std.specs.Prelude.{◌≡◌, [], ◌∷◌, ◌+◌, ◌≤◌, length};
 ghost use Rattle.trace_text.specs.Text.{spelled, decimal, word, field, numbers, written, Put};
 

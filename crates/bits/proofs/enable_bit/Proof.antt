@@ -7,5 +7,5 @@ use Rattle.bits.proofs.enable_bit.Tie as tie
 returns : tie.Need-returns
 returns c = or_set 64 c.args.register c.args.index c.requires
 
-pub enable-bit-spec : {M : Type 1} → statement M
-enable-bit-spec = tie.close (tie.spec (λ c. search rules) returns)
+pub enable_bit_spec : {M : Type 1} → statement M
+enable_bit_spec = tie.close (tie.spec (λ c. search rules) returns)

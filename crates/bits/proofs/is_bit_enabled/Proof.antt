@@ -10,5 +10,5 @@ use Rattle.bits.proofs.is_bit_enabled.Tie as tie
 returns : tie.Need-returns
 returns c = ap (λ (b : ℕ). eqb b 1) (shr_and c.args.register c.args.index)
 
-pub is-bit-enabled-spec : {M : Type 1} → statement M
-is-bit-enabled-spec = tie.close (tie.spec (λ c. search rules) returns)
+pub is_bit_enabled_spec : {M : Type 1} → statement M
+is_bit_enabled_spec = tie.close (tie.spec (λ c. search rules) returns)

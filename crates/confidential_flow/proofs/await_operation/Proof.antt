@@ -61,8 +61,8 @@ returns-5 c =
     (stored.store.ensures
     ∙ ap (put hart_words _ _) (ap to_words (set.set-resumable-operation.ensures ∙ ap (with_operation _ _ _) set.before.load.ensures)))
 
-pub await-operation-spec : {M : Type 1} → statement M
-await-operation-spec =
+pub await_operation_spec : {M : Type 1} → statement M
+await_operation_spec =
     tie.close
     (tie.spec
     (λ c κs. search rules)

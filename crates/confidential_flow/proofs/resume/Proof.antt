@@ -32,8 +32,8 @@ returns-2 c =
     let did = c.before.before.before.before.before.before.before in
     resume_ends _ _ _ did.process.ensures (λ n e. other _ refl (rw e at c.match.keys2))
 
-pub resume-spec : {M : Type 1} → statement M
-resume-spec =
+pub resume_spec : {M : Type 1} → statement M
+resume_spec =
     tie.close
     (tie.spec
     (λ c κs. search rules)

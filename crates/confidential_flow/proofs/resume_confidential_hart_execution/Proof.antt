@@ -20,8 +20,8 @@ resume-requires c κs =
     let s = sym test.before.are-tables-sound.ensures ∙ not-false _ test.if1.false in
     (sound_sized _ s, s)
 
-pub resume-confidential-hart-execution-spec : {M : Type 1} → statement M
-resume-confidential-hart-execution-spec =
+pub resume_confidential_hart_execution_spec : {M : Type 1} → statement M
+resume_confidential_hart_execution_spec =
     tie.close
     (tie.spec
     (λ c κs. search rules)

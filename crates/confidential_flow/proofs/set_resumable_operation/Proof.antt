@@ -17,8 +17,8 @@ await-operation-requires c κs =
     let s = sym c.before.before.are-tables-sound.ensures ∙ not-false _ c.before.if1.false in
     (sound_sized _ s, s)
 
-pub set-resumable-operation-spec : {M : Type 1} → statement M
-set-resumable-operation-spec =
+pub set_resumable_operation_spec : {M : Type 1} → statement M
+set_resumable_operation_spec =
     tie.close
     (tie.spec (λ c κs. search rules) (λ c. search rules) returns await-operation-requires (λ c. search rules)
     (λ c. c.before.before.await-operation.ensures))

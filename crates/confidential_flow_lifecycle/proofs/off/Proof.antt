@@ -36,8 +36,8 @@ returns-3 c =
     rw (stored.store.ensures, stepped.transition-to-shutdown.ensures ∙ ap after_off stepped.before.load.ensures) refl
     ∙ real_judged _ _ _ _ (off_listed _ _) start.requires.1 there.if1.false (sym held.before.is-dummy.ensures ∙ held.if2.false)
 
-pub off-spec : {M : Type 1} → statement M
-off-spec =
+pub off_spec : {M : Type 1} → statement M
+off_spec =
     tie.close
     (tie.spec
     (λ c. search rules)

@@ -17,7 +17,7 @@ off-requires c κs =
     let s = sym c.before.before.are-tables-sound.ensures ∙ not-false _ c.before.if1.false in
     (sound_sized _ s, s)
 
-pub shutdown-confidential-hart-spec : {M : Type 1} → statement M
-shutdown-confidential-hart-spec =
+pub shutdown_confidential_hart_spec : {M : Type 1} → statement M
+shutdown_confidential_hart_spec =
     tie.close
     (tie.spec (λ c κs. search rules) (λ c. search rules) returns off-requires (λ c. search rules) (λ c. c.before.before.off.ensures))

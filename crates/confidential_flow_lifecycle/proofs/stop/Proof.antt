@@ -51,8 +51,8 @@ returns-4 c =
     _
     stored.store.ensures
 
-pub stop-spec : {M : Type 1} → statement M
-stop-spec =
+pub stop_spec : {M : Type 1} → statement M
+stop_spec =
     tie.close
     (tie.spec
     (λ c. search rules)

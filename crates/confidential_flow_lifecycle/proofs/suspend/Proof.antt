@@ -51,8 +51,8 @@ returns-4 c =
     _
     stored.store.ensures
 
-pub suspend-spec : {M : Type 1} → statement M
-suspend-spec =
+pub suspend_spec : {M : Type 1} → statement M
+suspend_spec =
     tie.close
     (tie.spec
     (λ c. search rules)

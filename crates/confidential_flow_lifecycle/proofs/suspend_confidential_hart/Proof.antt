@@ -17,7 +17,7 @@ suspend-requires c κs =
     let s = sym c.before.before.are-tables-sound.ensures ∙ not-false _ c.before.if1.false in
     (sound_sized _ s, s)
 
-pub suspend-confidential-hart-spec : {M : Type 1} → statement M
-suspend-confidential-hart-spec =
+pub suspend_confidential_hart_spec : {M : Type 1} → statement M
+suspend_confidential_hart_spec =
     tie.close
     (tie.spec (λ c κs. search rules) (λ c. search rules) returns suspend-requires (λ c. search rules) (λ c. c.before.before.suspend.ensures))

@@ -51,8 +51,8 @@ returns-4 c =
     _
     stored.store.ensures
 
-pub wake-spec : {M : Type 1} → statement M
-wake-spec =
+pub wake_spec : {M : Type 1} → statement M
+wake_spec =
     tie.close
     (tie.spec
     (λ c. search rules)

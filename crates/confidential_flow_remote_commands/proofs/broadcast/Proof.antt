@@ -83,8 +83,8 @@ returns-5 c =
     (sent_is _ _ _ _ _ did.execute-own.ensures start.requires.1 there.if3.false
     (sym form.before.is-well-formed.ensures ∙ not-false _ form.if2.false) named.id.ensures sent.broadcast.ensures)))))
 
-pub broadcast-spec : {M : Type 1} → statement M
-broadcast-spec =
+pub broadcast_spec : {M : Type 1} → statement M
+broadcast_spec =
     tie.close
     (tie.spec
     (λ c κs. search rules)

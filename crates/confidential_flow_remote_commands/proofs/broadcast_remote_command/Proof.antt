@@ -20,8 +20,8 @@ broadcast-requires c κs =
     let s = sym test.before.are-tables-sound.ensures ∙ not-false _ test.if1.false in
     (sound_sized _ s, s)
 
-pub broadcast-remote-command-spec : {M : Type 1} → statement M
-broadcast-remote-command-spec =
+pub broadcast_remote_command_spec : {M : Type 1} → statement M
+broadcast_remote_command_spec =
     tie.close
     (tie.spec
     (λ c κs. search rules)

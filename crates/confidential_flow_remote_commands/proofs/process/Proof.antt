@@ -63,8 +63,8 @@ returns-4 c =
     (no _ (sym held.before.is-dummy.ensures ∙ held.if3.false)
     (rw (did.execute-queued.ensures.0, did.execute-queued.ensures.1, did.execute-queued.ensures.2, did.execute-queued.ensures.3, named.id.ensures)))))
 
-pub process-spec : {M : Type 1} → statement M
-process-spec =
+pub process_spec : {M : Type 1} → statement M
+process_spec =
     tie.close
     (tie.spec
     (λ c. search rules)

@@ -20,8 +20,8 @@ process-requires c κs =
     let s = sym test.before.are-tables-sound.ensures ∙ not-false _ test.if1.false in
     (sound_sized _ s, s)
 
-pub process-confidential-hart-remote-commands-spec : {M : Type 1} → statement M
-process-confidential-hart-remote-commands-spec =
+pub process_confidential_hart_remote_commands_spec : {M : Type 1} → statement M
+process_confidential_hart_remote_commands_spec =
     tie.close
     (tie.spec
     (λ c κs. search rules)

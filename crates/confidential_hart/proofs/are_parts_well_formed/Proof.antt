@@ -8,5 +8,5 @@ returns : tie.Need-returns
 unfolding well_formed
 returns c = rw c.all-zero.ensures
 
-pub are-parts-well-formed-spec : {M : Type 1} → statement M
-are-parts-well-formed-spec = tie.close (tie.spec (λ c κs. search rules) returns)
+pub are_parts_well_formed_spec : {M : Type 1} → statement M
+are_parts_well_formed_spec = tie.close (tie.spec (λ c κs. search rules) returns)

@@ -10,5 +10,5 @@ returns : tie.Need-returns
 unfolding performed tests effect
 returns c = no _ (not_no _ c.before.requires.1) refl
 
-pub allow-spec : {M : Type 1} → statement M
-allow-spec = tie.close (tie.spec (λ c. search rules) (λ c. search rules) (λ c. search rules) returns)
+pub allow_spec : {M : Type 1} → statement M
+allow_spec = tie.close (tie.spec (λ c. search rules) (λ c. search rules) (λ c. search rules) returns)

@@ -17,7 +17,7 @@ allow-requires c κs =
     let s = sym c.before.before.are-tables-sound.ensures ∙ not-false _ c.before.if1.false in
     (sound_sized _ s, s)
 
-pub allow-external-interrupt-spec : {M : Type 1} → statement M
-allow-external-interrupt-spec =
+pub allow_external_interrupt_spec : {M : Type 1} → statement M
+allow_external_interrupt_spec =
     tie.close
     (tie.spec (λ c κs. search rules) (λ c. search rules) returns allow-requires (λ c. search rules) (λ c. c.before.before.allow.ensures))

@@ -46,8 +46,8 @@ returns-3 c =
     (no _ (sym held.before.is-dummy.ensures ∙ held.if2.false)
     (rw (moved.exchange.ensures.0, moved.exchange.ensures.1, named.id.ensures))))
 
-pub give-back-spec : {M : Type 1} → statement M
-give-back-spec =
+pub give_back_spec : {M : Type 1} → statement M
+give_back_spec =
     tie.close
     (tie.spec
     (λ c. search rules)

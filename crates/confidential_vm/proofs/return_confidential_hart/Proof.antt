@@ -17,8 +17,8 @@ give-back-requires c κs =
     let s = sym c.before.before.before.are-tables-sound.ensures ∙ not-false _ c.before.before.if1.false in
     (sound_sized _ s, s)
 
-pub return-confidential-hart-spec : {M : Type 1} → statement M
-return-confidential-hart-spec =
+pub return_confidential_hart_spec : {M : Type 1} → statement M
+return_confidential_hart_spec =
     tie.close
     (tie.spec
     (λ c κs. search rules)

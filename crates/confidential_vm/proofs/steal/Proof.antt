@@ -80,8 +80,8 @@ returns-6 c =
     (no _ (ap not (sym fit.before.is-executable.ensures) ∙ fit.if5.false)
     (rw (moved.exchange.ensures.0, moved.exchange.ensures.1)))))))
 
-pub steal-spec : {M : Type 1} → statement M
-steal-spec =
+pub steal_spec : {M : Type 1} → statement M
+steal_spec =
     tie.close
     (tie.spec
     (λ c. search rules)

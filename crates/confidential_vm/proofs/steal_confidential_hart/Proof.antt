@@ -17,8 +17,8 @@ steal-requires c κs =
     let s = sym c.before.before.before.are-tables-sound.ensures ∙ not-false _ c.before.before.if1.false in
     (sound_sized _ s, s)
 
-pub steal-confidential-hart-spec : {M : Type 1} → statement M
-steal-confidential-hart-spec =
+pub steal_confidential_hart_spec : {M : Type 1} → statement M
+steal_confidential_hart_spec =
     tie.close
     (tie.spec
     (λ c κs. search rules)

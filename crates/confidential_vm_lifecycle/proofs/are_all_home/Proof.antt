@@ -29,8 +29,8 @@ loop-again c = (search rules, every_more _ _ c.before.before.before.loop.invaria
 returns-2 : tie.Need-returns-2 invariant-loop decreases-loop
 returns-2 c = every_all _ _ _ c.before.loop.invariant.1 c.before.loop.invariant.0 c.loop-test.false
 
-pub are-all-home-spec : {M : Type 1} → statement M
-are-all-home-spec =
+pub are_all_home_spec : {M : Type 1} → statement M
+are_all_home_spec =
     tie.close
     (tie.spec
     invariant-loop

@@ -17,6 +17,6 @@ state-requires c κs =
     let s = sym c.before.are-tables-sound.ensures ∙ not-false _ c.if1.false in
     (sound_sized _ s, s)
 
-pub confidential-hart-lifecycle-state-spec : {M : Type 1} → statement M
-confidential-hart-lifecycle-state-spec =
+pub confidential_hart_lifecycle_state_spec : {M : Type 1} → statement M
+confidential_hart_lifecycle_state_spec =
     tie.close (tie.spec (λ c κs. search rules) returns state-requires (λ c. c.state.ensures))

@@ -9,5 +9,5 @@ returns : tie.Need-returns
 unfolding performed tests effect
 returns c = no _ (not_no _ c.before.before.before.before.before.before.before.requires.1) (rw c.are-all-home.ensures)
 
-pub executing-spec : {M : Type 1} → statement M
-executing-spec = tie.close (tie.spec (λ c. search rules) (λ c κs. search rules) returns)
+pub executing_spec : {M : Type 1} → statement M
+executing_spec = tie.close (tie.spec (λ c. search rules) (λ c κs. search rules) returns)

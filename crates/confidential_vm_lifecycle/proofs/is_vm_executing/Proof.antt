@@ -17,6 +17,6 @@ executing-requires c κs =
     let s = sym c.before.are-tables-sound.ensures ∙ not-false _ c.if1.false in
     (sound_sized _ s, s)
 
-pub is-vm-executing-spec : {M : Type 1} → statement M
-is-vm-executing-spec =
+pub is_vm_executing_spec : {M : Type 1} → statement M
+is_vm_executing_spec =
     tie.close (tie.spec (λ c κs. search rules) returns executing-requires (λ c. c.executing.ensures))

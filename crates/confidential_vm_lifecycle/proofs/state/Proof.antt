@@ -15,5 +15,5 @@ returns-2 : tie.Need-returns-2
 unfolding performed tests effect
 returns-2 c = no _ (not_no _ c.before.before.before.before.before.before.before.before.before.requires.1) (no _ (lt-leb _ _ c.before.if1.false) (rw c.lifecycle.ensures))
 
-pub state-spec : {M : Type 1} → statement M
-state-spec = tie.close (tie.spec (λ c. search rules) returns (λ c κs. search rules) returns-2)
+pub state_spec : {M : Type 1} → statement M
+state_spec = tie.close (tie.spec (λ c. search rules) returns (λ c κs. search rules) returns-2)

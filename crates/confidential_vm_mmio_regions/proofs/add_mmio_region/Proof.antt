@@ -18,8 +18,8 @@ add-requires c κs =
     let s = sym judged.before.are-tables-sound.ensures ∙ not-false _ judged.if1.false in
     (sound_sized _ s, s)
 
-pub add-mmio-region-spec : {M : Type 1} → statement M
-add-mmio-region-spec =
+pub add_mmio_region_spec : {M : Type 1} → statement M
+add_mmio_region_spec =
     tie.close
     (tie.spec
     (λ c κs. search rules)

@@ -22,8 +22,8 @@ returns-2 c =
     (made _ _ region.new.ensures passed.if1.false)
     c.is-mmio-region-defined.ensures
 
-pub is-defined-spec : {M : Type 1} → statement M
-is-defined-spec =
+pub is_defined_spec : {M : Type 1} → statement M
+is_defined_spec =
     tie.close
     (tie.spec
     (λ c κs. search rules)

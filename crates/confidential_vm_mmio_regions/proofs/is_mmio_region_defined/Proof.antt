@@ -18,8 +18,8 @@ is-defined-requires c κs =
     let s = sym judged.before.are-tables-sound.ensures ∙ not-false _ judged.if1.false in
     (sound_sized _ s, s)
 
-pub is-mmio-region-defined-spec : {M : Type 1} → statement M
-is-mmio-region-defined-spec =
+pub is_mmio_region_defined_spec : {M : Type 1} → statement M
+is_mmio_region_defined_spec =
     tie.close
     (tie.spec
     (λ c κs. search rules)

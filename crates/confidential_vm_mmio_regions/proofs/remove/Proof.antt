@@ -23,8 +23,8 @@ returns-2 c =
     removed_answer _ _ _ start.requires.1 (not_large _ _ region.new.ensures passed.if1.false)
     (table.remove.ensures ∙ ap (removed _ _) (made _ _ region.new.ensures passed.if1.false))
 
-pub remove-spec : {M : Type 1} → statement M
-remove-spec =
+pub remove_spec : {M : Type 1} → statement M
+remove_spec =
     tie.close
     (tie.spec
     (λ c κs. search rules)

@@ -18,8 +18,8 @@ remove-requires c κs =
     let s = sym judged.before.are-tables-sound.ensures ∙ not-false _ judged.if1.false in
     (sound_sized _ s, s)
 
-pub remove-mmio-region-spec : {M : Type 1} → statement M
-remove-mmio-region-spec =
+pub remove_mmio_region_spec : {M : Type 1} → statement M
+remove_mmio_region_spec =
     tie.close
     (tie.spec
     (λ c κs. search rules)

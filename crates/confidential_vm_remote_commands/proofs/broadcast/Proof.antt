@@ -27,5 +27,5 @@ returns-2 c =
     let p = w.before.before.before.before.before.before in
     send_is _ _ _ [] p.requires.1 (sym w.is-well-formed.ensures ∙ not-false _ f.if1.false) _ _ d.deliver.ensures
 
-pub broadcast-spec : {M : Type 1} → statement M
-broadcast-spec = tie.close (tie.spec (λ c κs. search rules) returns (λ c. search rules) deliver-requires (λ c. search rules) returns-2)
+pub broadcast_spec : {M : Type 1} → statement M
+broadcast_spec = tie.close (tie.spec (λ c κs. search rules) returns (λ c. search rules) deliver-requires (λ c. search rules) returns-2)

@@ -19,8 +19,8 @@ broadcast-requires c κs =
     let s = sym c.before.before.are-tables-sound.ensures ∙ not-false _ c.before.if1.false in
     (sound_sized _ s, s)
 
-pub broadcast-remote-command-spec : {M : Type 1} → statement M
-broadcast-remote-command-spec =
+pub broadcast_remote_command_spec : {M : Type 1} → statement M
+broadcast_remote_command_spec =
     tie.close
     (tie.spec
     (λ c κs. search rules)

@@ -58,8 +58,8 @@ loop-again c =
 returns-2 : tie.Need-returns-2 invariant-loop decreases-loop
 returns-2 c = sym (turns_done _ _ _ _ _ _ _ c.loop-test.false) ∙ c.before.loop.invariant.2
 
-pub deliver-spec : {M : Type 1} → statement M
-deliver-spec =
+pub deliver_spec : {M : Type 1} → statement M
+deliver_spec =
     tie.close
     (tie.spec
     invariant-loop

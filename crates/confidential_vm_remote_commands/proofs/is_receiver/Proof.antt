@@ -8,5 +8,5 @@ returns : tie.Need-returns
 unfolding receives
 returns c = rw (c.before.is-hart-selected.ensures, c.is-executable.ensures)
 
-pub is-receiver-spec : {M : Type 1} → statement M
-is-receiver-spec = tie.close (tie.spec (λ c κs. search rules) (λ c κs. search rules) returns)
+pub is_receiver_spec : {M : Type 1} → statement M
+is_receiver_spec = tie.close (tie.spec (λ c κs. search rules) (λ c κs. search rules) returns)

@@ -43,8 +43,8 @@ returns-4 c =
     takes _ _ _ _ _ _ (ap not (sym p.before.is-receiver.ensures) ∙ p.if1.false) _ _ o.offer.ensures
     g.if2.false _ (no _ (sym c.before.is-dummy.ensures ∙ c.if3.false) refl)
 
-pub visit-spec : {M : Type 1} → statement M
-visit-spec =
+pub visit_spec : {M : Type 1} → statement M
+visit_spec =
     tie.close
     (tie.spec
     (λ c κs. search rules)

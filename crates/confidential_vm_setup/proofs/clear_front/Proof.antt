@@ -9,8 +9,8 @@ returns c =
     let start = c.before.before.before.before.before in
     front_cleared start.args.n start.args.words.now start.requires c.before.before.clear.ensures
 
-pub clear-front-spec : {M : Type 1} → statement M
-clear-front-spec =
+pub clear_front_spec : {M : Type 1} → statement M
+clear_front_spec =
     tie.close
     (tie.spec
     (λ c. search rules)

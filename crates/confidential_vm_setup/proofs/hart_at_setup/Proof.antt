@@ -10,5 +10,5 @@ returns c = yes _ (search tests) c.from-vm-hart.ensures
 returns-2 : tie.Need-returns-2
 returns-2 c = no _ (search tests) c.from-vm-hart-reset.ensures
 
-pub hart-at-setup-spec : {M : Type 1} → statement M
-hart-at-setup-spec = tie.close (tie.spec (λ c κs. search rules) returns (λ c κs. search rules) returns-2)
+pub hart_at_setup_spec : {M : Type 1} → statement M
+hart_at_setup_spec = tie.close (tie.spec (λ c κs. search rules) returns (λ c κs. search rules) returns-2)

@@ -26,8 +26,8 @@ loop-again c =
 returns : tie.Need-returns invariant-loop decreases-loop
 returns c = harts_done _ _ c.before.loop.invariant.2 (search rules) (search rules)
 
-pub set-hardware-spec : {M : Type 1} → statement M
-set-hardware-spec =
+pub set_hardware_spec : {M : Type 1} → statement M
+set_hardware_spec =
     tie.close
     (tie.spec
     invariant-loop

@@ -13,8 +13,8 @@ same_length c = simp length-set
 returns : tie.Need-returns
 returns c = sets-eq (c.args.n ∷ c.args.m ∷ 0 ∷ 0 ∷ []) c.args.head.now 0 c.requires
 
-pub set-head-spec : {M : Type 1} → statement M
-set-head-spec =
+pub set_head_spec : {M : Type 1} → statement M
+set_head_spec =
     tie.close
     (tie.spec
     (λ c. search rules)

@@ -26,8 +26,8 @@ loop-again c =
 returns : tie.Need-returns invariant-loop decreases-loop
 returns c = harts_done _ _ c.before.before.loop.invariant.2 (search rules) (search rules)
 
-pub set-home-spec : {M : Type 1} → statement M
-set-home-spec =
+pub set_home_spec : {M : Type 1} → statement M
+set_home_spec =
     tie.close
     (tie.spec
     invariant-loop

@@ -17,8 +17,8 @@ returns c =
     let i : ℕ = start.args.i in
     (refl, part_put effect_words effects i _ ∙ ap (put effect_words effects i) w.write.ensures)
 
-pub execute-spec : {M : Type 1} → statement M
-execute-spec =
+pub execute_spec : {M : Type 1} → statement M
+execute_spec =
     tie.close
     (tie.spec
     (λ c. search rules)

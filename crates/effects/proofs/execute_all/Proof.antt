@@ -28,8 +28,8 @@ returns : tie.Need-returns invariant-loop decreases-loop
 unfolding commands
 returns c = did_all _ _ _ c.before.loop.invariant.2 (search rules) (search rules)
 
-pub execute-all-spec : {M : Type 1} → statement M
-execute-all-spec =
+pub execute_all_spec : {M : Type 1} → statement M
+execute_all_spec =
     tie.close
     (tie.spec
     invariant-loop

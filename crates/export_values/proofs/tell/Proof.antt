@@ -45,8 +45,8 @@ returns c =
     let word = c.before.before.before.before.before.before.before in
     whole_told word.before.before.before.told.ensures word.tell-word.ensures c.before.before.copy.ensures
 
-pub tell-spec : {M : Type 1} → statement M
-tell-spec =
+pub tell_spec : {M : Type 1} → statement M
+tell_spec =
     tie.close
     (tie.spec
     (λ c κs. search rules)

@@ -8,5 +8,5 @@ use Rattle.export_values.proofs.tell_value.Tie as tie
 returns : tie.Need-returns
 returns c = record { ends = refl; leaves = first_over c.args.value.now _ c.requires }
 
-pub tell-value-spec : {M : Type 1} → statement M
-tell-value-spec = tie.close (tie.spec (λ c. search rules) (λ c. search rules) returns)
+pub tell_value_spec : {M : Type 1} → statement M
+tell_value_spec = tie.close (tie.spec (λ c. search rules) (λ c. search rules) returns)

@@ -23,8 +23,8 @@ returns-3 c = in_case c.before.before.before.before.enum-told3.given.1 c.before.
 returns-4 : tie.Need-returns-4
 returns-4 c = in_case c.before.before.before.before.enum-told4.given.1 c.before.before.tell-value3.ensures
 
-pub tell-word-spec : {M : Type 1} → statement M
-tell-word-spec =
+pub tell_word_spec : {M : Type 1} → statement M
+tell_word_spec =
     tie.close
     (tie.spec
     (λ c. search rules)

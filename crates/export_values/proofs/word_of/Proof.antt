@@ -10,5 +10,5 @@ returns c = yes _ c.if1.true refl
 returns-2 : tie.Need-returns-2
 returns-2 c = no _ c.if1.false refl
 
-pub word-of-spec : {M : Type 1} → statement M
-word-of-spec = tie.close (tie.spec returns returns-2)
+pub word_of_spec : {M : Type 1} → statement M
+word_of_spec = tie.close (tie.spec returns returns-2)

@@ -26,8 +26,8 @@ whole-table = refl
 returns : tie.Need-returns
 returns c = follows_at table whole-table c.before.args.state c.before.args.change (search rules) (search rules)
 
-pub lifecycle-change-spec : {M : Type 1} → statement M
-lifecycle-change-spec =
+pub lifecycle_change_spec : {M : Type 1} → statement M
+lifecycle_change_spec =
     tie.close
     (tie.spec
     (λ c. search rules)

@@ -7,8 +7,8 @@ use Rattle.hart_rows.proofs.from_words.Tie as tie
 returns : tie.Need-returns
 returns c = refl
 
-pub from-words-spec : {M : Type 1} → statement M
-from-words-spec =
+pub from_words_spec : {M : Type 1} → statement M
+from_words_spec =
     tie.close
     (tie.spec
     (λ c. search rules)

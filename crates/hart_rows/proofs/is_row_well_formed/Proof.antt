@@ -10,8 +10,8 @@ returns c =
     let start = c.before.before.before.before.before.before.before in
     c.are-parts-well-formed.ensures ∙ row_formed start.args.vm start.args.row.now start.requires.0 start.requires.1
 
-pub is-row-well-formed-spec : {M : Type 1} → statement M
-is-row-well-formed-spec =
+pub is_row_well_formed_spec : {M : Type 1} → statement M
+is_row_well_formed_spec =
     tie.close
     (tie.spec
     (λ c. search rules)

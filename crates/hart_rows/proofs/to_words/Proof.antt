@@ -14,8 +14,8 @@ returns : tie.Need-returns
 unfolding to_words
 returns c = sets_whole (to_words c.before.args.hart) c.before.args.row.now c.before.requires
 
-pub to-words-spec : {M : Type 1} → statement M
-to-words-spec =
+pub to_words_spec : {M : Type 1} → statement M
+to_words_spec =
     tie.close
     (tie.spec
     (λ c. search rules)

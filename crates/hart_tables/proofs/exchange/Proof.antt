@@ -20,8 +20,8 @@ returns c =
           ∙ ap (put hart_words _ _) (ap to_words l1.load.ensures ∙ loaded_words _ _ start.requires.0),
     )
 
-pub exchange-spec : {M : Type 1} → statement M
-exchange-spec =
+pub exchange_spec : {M : Type 1} → statement M
+exchange_spec =
     tie.close
     (tie.spec
     (λ c κs. search rules)

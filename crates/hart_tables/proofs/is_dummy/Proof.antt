@@ -10,5 +10,5 @@ use Rattle.hart_tables.proofs.is_dummy.Tie as tie
 returns : tie.Need-returns
 returns c = ap (λ (v : ℕ). eqb v no_vm) c.vm.ensures
 
-pub is-dummy-spec : {M : Type 1} → statement M
-is-dummy-spec = tie.close (tie.spec (λ c κs. search rules) returns)
+pub is_dummy_spec : {M : Type 1} → statement M
+is_dummy_spec = tie.close (tie.spec (λ c κs. search rules) returns)

@@ -11,5 +11,5 @@ use Rattle.hart_tables.proofs.is_executable.Tie as tie
 returns : tie.Need-returns
 returns c = ap (λ (state : ℕ). eqb state started || eqb state suspended) c.lifecycle.ensures
 
-pub is-executable-spec : {M : Type 1} → statement M
-is-executable-spec = tie.close (tie.spec (λ c κs. search rules) returns)
+pub is_executable_spec : {M : Type 1} → statement M
+is_executable_spec = tie.close (tie.spec (λ c κs. search rules) returns)

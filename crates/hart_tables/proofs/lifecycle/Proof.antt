@@ -8,5 +8,5 @@ use Rattle.hart_tables.proofs.lifecycle.Tie as tie
 returns : tie.Need-returns
 returns c = c.word.ensures ∙ lifecycle_word_lem _ _
 
-pub lifecycle-spec : {M : Type 1} → statement M
-lifecycle-spec = tie.close (tie.spec (λ c κs. search rules) returns)
+pub lifecycle_spec : {M : Type 1} → statement M
+lifecycle_spec = tie.close (tie.spec (λ c κs. search rules) returns)

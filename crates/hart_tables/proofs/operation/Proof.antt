@@ -8,5 +8,5 @@ use Rattle.hart_tables.proofs.operation.Tie as tie
 returns : tie.Need-returns
 returns c = c.word.ensures ∙ operation_word_lem _ _
 
-pub operation-spec : {M : Type 1} → statement M
-operation-spec = tie.close (tie.spec (λ c κs. search rules) returns)
+pub operation_spec : {M : Type 1} → statement M
+operation_spec = tie.close (tie.spec (λ c κs. search rules) returns)

@@ -8,5 +8,5 @@ use Rattle.hart_tables.proofs.vm.Tie as tie
 returns : tie.Need-returns
 returns c = c.word.ensures ∙ vm_word_lem _ _
 
-pub vm-spec : {M : Type 1} → statement M
-vm-spec = tie.close (tie.spec (λ c κs. search rules) returns)
+pub vm_spec : {M : Type 1} → statement M
+vm_spec = tie.close (tie.spec (λ c κs. search rules) returns)

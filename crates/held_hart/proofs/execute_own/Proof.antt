@@ -17,8 +17,8 @@ returns-2 c =
     own_one _ _ _ _ _ (sym test.before.is-hart-selected.ensures ∙ not-false _ test.if1.false) did.execute.ensures.0
     off.power-off-if.ensures did.execute.ensures.1
 
-pub execute-own-spec : {M : Type 1} → statement M
-execute-own-spec =
+pub execute_own_spec : {M : Type 1} → statement M
+execute_own_spec =
     tie.close
     (tie.spec
     (λ c κs. search rules)

@@ -27,8 +27,8 @@ returns c =
       did.execute-all.ensures.1 ∙ ap (λ (q : List ℕ). over (effects_of start.args.hart (commands q)) start.args.effects.now) q,
     )
 
-pub execute-queued-spec : {M : Type 1} → statement M
-execute-queued-spec =
+pub execute_queued_spec : {M : Type 1} → statement M
+execute_queued_spec =
     tie.close
     (tie.spec
     (λ c. search rules)

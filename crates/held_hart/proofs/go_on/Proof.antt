@@ -26,8 +26,8 @@ returns-3 c =
     let on = c.before.before in
     rw (← on.before.before.load.ensures) (no _ (ne_eqb _ _ on.if1.false) (no _ (not_no _ (eq-eqb _ _ c.if2.false)) refl))
 
-pub go-on-spec : {M : Type 1} → statement M
-go-on-spec =
+pub go_on_spec : {M : Type 1} → statement M
+go_on_spec =
     tie.close
     (tie.spec
     (λ c κs. search rules)

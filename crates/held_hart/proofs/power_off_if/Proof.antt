@@ -26,8 +26,8 @@ returns c =
 returns-2 : tie.Need-returns-2
 returns-2 c = no _ c.if1.false refl
 
-pub power-off-if-spec : {M : Type 1} → statement M
-power-off-if-spec =
+pub power_off_if_spec : {M : Type 1} → statement M
+power_off_if_spec =
     tie.close
     (tie.spec
     (λ c. search rules)

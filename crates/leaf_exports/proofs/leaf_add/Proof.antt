@@ -8,5 +8,5 @@ use Rattle.leaf_exports.proofs.leaf_add.Tie as tie
 returns : tie.Need-returns
 returns c = ap of_addition c.before.before.add.ensures
 
-pub leaf-add-spec : {M : Type 1} → statement M
-leaf-add-spec = tie.close (tie.spec (λ c κs. search rules) (λ c. search rules) returns)
+pub leaf_add_spec : {M : Type 1} → statement M
+leaf_add_spec = tie.close (tie.spec (λ c κs. search rules) (λ c. search rules) returns)

@@ -8,5 +8,5 @@ use Rattle.leaf_exports.proofs.leaf_dummy.Tie as tie
 returns : tie.Need-returns
 returns c = c.before.before.to-words.ensures ∙ ap to_words c.before.before.before.before.dummy.ensures
 
-pub leaf-dummy-spec : {M : Type 1} → statement M
-leaf-dummy-spec = tie.close (tie.spec (λ c κs. search rules) (λ c κs. search rules) (λ c. search rules) returns)
+pub leaf_dummy_spec : {M : Type 1} → statement M
+leaf_dummy_spec = tie.close (tie.spec (λ c κs. search rules) (λ c κs. search rules) (λ c. search rules) returns)

@@ -8,6 +8,6 @@ use Rattle.leaf_exports.proofs.leaf_from_vm_hart_reset.Tie as tie
 returns : tie.Need-returns
 returns c = c.before.before.to-words.ensures ∙ ap to_words c.before.before.before.before.from-vm-hart-reset.ensures
 
-pub leaf-from-vm-hart-reset-spec : {M : Type 1} → statement M
-leaf-from-vm-hart-reset-spec =
+pub leaf_from_vm_hart_reset_spec : {M : Type 1} → statement M
+leaf_from_vm_hart_reset_spec =
     tie.close (tie.spec (λ c κs. search rules) (λ c κs. search rules) (λ c. search rules) returns)

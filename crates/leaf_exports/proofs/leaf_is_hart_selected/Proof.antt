@@ -9,6 +9,6 @@ use Rattle.leaf_exports.proofs.leaf_is_hart_selected.Tie as tie
 returns : tie.Need-returns
 returns c = c.is-hart-selected.ensures ∙ ap (λ (d : ConfidentialHartRemoteCommand). selects d c.before.before.before.args.hart) c.before.from-words.ensures
 
-pub leaf-is-hart-selected-spec : {M : Type 1} → statement M
-leaf-is-hart-selected-spec =
+pub leaf_is_hart_selected_spec : {M : Type 1} → statement M
+leaf_is_hart_selected_spec =
     tie.close (tie.spec (λ c κs. search rules) (λ c κs. search rules) returns)

@@ -8,5 +8,5 @@ use Rattle.leaf_exports.proofs.leaf_is_well_formed.Tie as tie
 returns : tie.Need-returns
 returns c = c.is-well-formed.ensures ∙ ap well_formed c.before.from-words.ensures
 
-pub leaf-is-well-formed-spec : {M : Type 1} → statement M
-leaf-is-well-formed-spec = tie.close (tie.spec (λ c κs. search rules) (λ c κs. search rules) returns)
+pub leaf_is_well_formed_spec : {M : Type 1} → statement M
+leaf_is_well_formed_spec = tie.close (tie.spec (λ c κs. search rules) (λ c κs. search rules) returns)

@@ -13,6 +13,6 @@ returns c =
     ap (answer made.number) (sets_whole (made.region.base ∷ made.region.end ∷ []) c.before.before.args.region.now c.before.before.requires)
     ∙ ap of_region c.new.ensures
 
-pub leaf-new-region-spec : {M : Type 1} → statement M
-leaf-new-region-spec =
+pub leaf_new_region_spec : {M : Type 1} → statement M
+leaf_new_region_spec =
     tie.close (tie.spec (λ c κs. search rules) (λ c. search rules) (λ c. search rules) (λ c. search rules) returns)

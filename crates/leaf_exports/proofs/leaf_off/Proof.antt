@@ -9,8 +9,8 @@ use Rattle.leaf_exports.proofs.leaf_off.Tie as tie
 returns : tie.Need-returns
 returns c = stored (c.before.before.before.before.transition-to-shutdown.ensures ∙ ap after_off c.before.before.before.before.before.from-words.ensures) c.before.before.to-words.ensures
 
-pub leaf-off-spec : {M : Type 1} → statement M
-leaf-off-spec =
+pub leaf_off_spec : {M : Type 1} → statement M
+leaf_off_spec =
     tie.close
     (tie.spec
     (λ c κs. search rules)

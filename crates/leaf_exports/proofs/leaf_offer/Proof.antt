@@ -8,5 +8,5 @@ use Rattle.leaf_exports.proofs.leaf_offer.Tie as tie
 returns : tie.Need-returns
 returns c = c.before.before.offer.ensures ∙ ap (offered _) c.before.before.before.before.from-words.ensures
 
-pub leaf-offer-spec : {M : Type 1} → statement M
-leaf-offer-spec = tie.close (tie.spec (λ c κs. search rules) (λ c κs. search rules) (λ c. search rules) returns)
+pub leaf_offer_spec : {M : Type 1} → statement M
+leaf_offer_spec = tie.close (tie.spec (λ c κs. search rules) (λ c κs. search rules) (λ c. search rules) returns)

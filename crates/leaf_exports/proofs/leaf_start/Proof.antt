@@ -9,8 +9,8 @@ use Rattle.leaf_exports.proofs.leaf_start.Tie as tie
 returns : tie.Need-returns
 returns c = stored (c.before.before.before.before.transition-from-stopped-to-started.ensures ∙ ap (after_start _ _) c.before.before.before.before.before.from-words.ensures) c.before.before.to-words.ensures
 
-pub leaf-start-spec : {M : Type 1} → statement M
-leaf-start-spec =
+pub leaf_start_spec : {M : Type 1} → statement M
+leaf_start_spec =
     tie.close
     (tie.spec
     (λ c κs. search rules)

@@ -9,8 +9,8 @@ use Rattle.leaf_exports.proofs.leaf_stop.Tie as tie
 returns : tie.Need-returns
 returns c = stored (c.before.before.before.before.transition-from-started-to-stopped.ensures ∙ ap after_stop c.before.before.before.before.before.from-words.ensures) c.before.before.to-words.ensures
 
-pub leaf-stop-spec : {M : Type 1} → statement M
-leaf-stop-spec =
+pub leaf_stop_spec : {M : Type 1} → statement M
+leaf_stop_spec =
     tie.close
     (tie.spec
     (λ c κs. search rules)

@@ -13,8 +13,8 @@ transition-from-started-to-suspended-requires c κs = search rules
 returns : tie.Need-returns
 returns c = stored (c.before.before.before.before.transition-from-started-to-suspended.ensures ∙ ap after_suspend c.before.before.before.before.before.from-words.ensures) c.before.before.to-words.ensures
 
-pub leaf-suspend-spec : {M : Type 1} → statement M
-leaf-suspend-spec =
+pub leaf_suspend_spec : {M : Type 1} → statement M
+leaf_suspend_spec =
     tie.close
     (tie.spec
     (λ c κs. search rules)

@@ -13,8 +13,8 @@ transition-from-suspended-to-started-requires c κs = search rules
 returns : tie.Need-returns
 returns c = stored (c.before.before.before.before.transition-from-suspended-to-started.ensures ∙ ap (after_wake _ _) c.before.before.before.before.before.from-words.ensures) c.before.before.to-words.ensures
 
-pub leaf-wake-spec : {M : Type 1} → statement M
-leaf-wake-spec =
+pub leaf_wake_spec : {M : Type 1} → statement M
+leaf_wake_spec =
     tie.close
     (tie.spec
     (λ c κs. search rules)

@@ -8,8 +8,8 @@ returns c =
     let did = c.before.before.before.before.before.before.before.before.before.before.before.before in
     next_step _ _ _ _ _ _ did.perform.ensures
 
-pub perform-spec : {M : Type 1} → statement M
-perform-spec =
+pub perform_spec : {M : Type 1} → statement M
+perform_spec =
     tie.close
     (tie.spec
     (λ c κs. tt)

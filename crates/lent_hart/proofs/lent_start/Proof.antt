@@ -15,9 +15,9 @@ use Rattle.lent_hart.specs.contracts.lent_start as f
 use Rattle.lent_hart.proofs.lent_start.Statement as stated
 use Rattle.lent_hart.proofs.lent_start.Code as code
 
-pub lent-start-spec : {M : Type 1} → stated.statement M
+pub lent_start_spec : {M : Type 1} → stated.statement M
 unfolding code.routine tables_of
-lent-start-spec 𝓤 𝓛 𝓜 𝓡 =
+lent_start_spec 𝓤 𝓛 𝓜 𝓡 =
     entered 𝓤 𝓛.H (triple_of 𝓛 f.signature (f.spec 𝓛 𝓜.mem 𝓡.run))
     (tables 𝓤 𝓛.H 𝓜 𝓡 code.env).C (tables 𝓤 𝓛.H 𝓜 𝓡 code.env).Λ #f code.function (code.unfolded 𝓤 𝓛.H 𝓜 𝓡)
     (lent_meets 2 (λ ns. after_start ns.0 ns.1.0) #g 𝓛 (f.clauses 𝓛 𝓜.mem 𝓡.run)

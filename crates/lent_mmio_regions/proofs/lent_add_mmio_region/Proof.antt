@@ -198,9 +198,9 @@ module _ {M : Type 1} {𝓤 : Ura M} (𝓛 : Logic 𝓤) (at_mem : Memory → SP
         move ! (5 ∷ 6 ∷ []) $ free1 ! $ move ! (3 ∷ 4 ∷ []) $ free1 ! $ free0 ! $
         keep ! (0 ∷ 1 ∷ 2 ∷ []) $ by ! (exits ys refl answer isd (add_kept ys n base size (fails (eqb answer.number no-refusal) no?)))))
 
-pub lent-add-mmio-region-spec : {M : Type 1} → stated.statement M
+pub lent_add_mmio_region_spec : {M : Type 1} → stated.statement M
 unfolding code.routine tables_of
-lent-add-mmio-region-spec 𝓤 𝓛 𝓜 𝓡 =
+lent_add_mmio_region_spec 𝓤 𝓛 𝓜 𝓡 =
     entered 𝓤 𝓛.H (triple_of 𝓛 f.signature (f.spec 𝓛 𝓜.mem 𝓡.run))
     (tables 𝓤 𝓛.H 𝓜 𝓡 code.env).C (tables 𝓤 𝓛.H 𝓜 𝓡 code.env).Λ #f code.function (code.unfolded 𝓤 𝓛.H 𝓜 𝓡)
     (walk.changes_meet D'.mir word ty_ptr body.t-5 𝓛 𝓜.mem 𝓡.run (f.clauses 𝓛 𝓜.mem 𝓡.run)

@@ -247,9 +247,9 @@ module _ {M : Type 1} {𝓤 : Ura M} (𝓛 : Logic 𝓤) (at_mem : Memory → SP
         keep ! (0 ∷ 1 ∷ 2 ∷ []) $ by ! (exits zs.0 same (changed no-refusal k) (made no-refusal k (lit< tt) isk.1)
         (remove_done ys n base size (passed no?) k zs.0 is))))))))))))
 
-pub lent-remove-mmio-region-spec : {M : Type 1} → stated.statement M
+pub lent_remove_mmio_region_spec : {M : Type 1} → stated.statement M
 unfolding code.routine tables_of
-lent-remove-mmio-region-spec 𝓤 𝓛 𝓜 𝓡 =
+lent_remove_mmio_region_spec 𝓤 𝓛 𝓜 𝓡 =
     entered 𝓤 𝓛.H (triple_of 𝓛 f.signature (f.spec 𝓛 𝓜.mem 𝓡.run))
     (tables 𝓤 𝓛.H 𝓜 𝓡 code.env).C (tables 𝓤 𝓛.H 𝓜 𝓡 code.env).Λ #f code.function (code.unfolded 𝓤 𝓛.H 𝓜 𝓡)
     (walk.changes_meet word mutable-reference mutable body.t-5 𝓛 𝓜.mem 𝓡.run (f.clauses 𝓛

@@ -415,9 +415,9 @@ module _ {M : Type 1} {𝓤 : Ura M} (𝓛 : Logic 𝓤) (at_mem : Memory → SP
         )
         (f.clauses 𝓛 at_mem run) (WpFn 𝓤 H 𝓣.C 𝓣.Λ code.function) (WpFn-mono 𝓤 H 𝓛.laws 𝓣 code.function) walks
 
-pub remove-overlapping-spec : {M : Type 1} → stated.statement M
+pub remove_overlapping_spec : {M : Type 1} → stated.statement M
 unfolding code.routine tables_of
-remove-overlapping-spec 𝓤 𝓛 𝓜 𝓡 =
+remove_overlapping_spec 𝓤 𝓛 𝓜 𝓡 =
     entered 𝓤 𝓛.H (triple_of 𝓛 f.signature (f.spec 𝓛 𝓜.mem 𝓡.run))
     (tables 𝓤 𝓛.H 𝓜 𝓡 code.env).C (tables 𝓤 𝓛.H 𝓜 𝓡 code.env).Λ #f code.function (code.unfolded 𝓤 𝓛.H 𝓜 𝓡)
     (meets 𝓛 𝓜.mem 𝓡.run (tables_of 𝓤 𝓛.H 𝓜 (tables 𝓤 𝓛.H 𝓜 𝓡 code.env))

@@ -24,5 +24,5 @@ returns-3 c =
     let args = c.before.before.args in
     no _ (le-ltb args.length max_regions (search rules)) (no _ (le-ltb max_regions args.count (search rules)) refl)
 
-pub places-spec : {M : Type 1} → statement M
-places-spec = tie.close (tie.spec returns returns-2 returns-3)
+pub places_spec : {M : Type 1} → statement M
+places_spec = tie.close (tie.spec returns returns-2 returns-3)

@@ -8,5 +8,5 @@ use Rattle.mmio_region_survey.proofs.requested.Tie as tie
 returns : tie.Need-returns
 returns c = ap (λ (n : NewRegion). n.region) c.before.new.ensures
 
-pub requested-spec : {M : Type 1} → statement M
-requested-spec = tie.close (tie.spec (λ c κs. search rules) returns)
+pub requested_spec : {M : Type 1} → statement M
+requested_spec = tie.close (tie.spec (λ c κs. search rules) returns)

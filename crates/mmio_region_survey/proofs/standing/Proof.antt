@@ -15,5 +15,5 @@ returns-2 : tie.Need-returns-2
 unfolding standing_of
 returns-2 c = no _ (le-ltb c.before.args.count c.before.args.places (search rules)) refl
 
-pub standing-spec : {M : Type 1} → statement M
-standing-spec = tie.close (tie.spec returns returns-2)
+pub standing_spec : {M : Type 1} → statement M
+standing_spec = tie.close (tie.spec returns returns-2)

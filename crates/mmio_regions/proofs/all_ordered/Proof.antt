@@ -26,8 +26,8 @@ loop-again c =
 returns : tie.Need-returns invariant-loop decreases-loop
 returns c = all_done _ _ c.before.loop.i _ c.before.loop.invariant.1 (search rules) (search rules)
 
-pub all-ordered-spec : {M : Type 1} → statement M
-all-ordered-spec =
+pub all_ordered_spec : {M : Type 1} → statement M
+all_ordered_spec =
     tie.close
     (tie.spec
     invariant-loop

@@ -34,8 +34,8 @@ loop-again c =
 returns-2 : tie.Need-returns-2 invariant-loop decreases-loop
 returns-2 c = first_none _ _ c.before.loop.i _ c.before.loop.invariant.1 (search rules) (search rules)
 
-pub find-overlapping-spec : {M : Type 1} → statement M
-find-overlapping-spec =
+pub find_overlapping_spec : {M : Type 1} → statement M
+find_overlapping_spec =
     tie.close
     (tie.spec
     invariant-loop

@@ -7,5 +7,5 @@ use Rattle.mmio_regions.proofs.is_mmio_region_defined.Tie as tie
 returns : tie.Need-returns
 returns c = first_any _ _ c.find-containing.ensures
 
-pub is-mmio-region-defined-spec : {M : Type 1} → statement M
-is-mmio-region-defined-spec = tie.close (tie.spec (λ c κs. search rules) returns)
+pub is_mmio_region_defined_spec : {M : Type 1} → statement M
+is_mmio_region_defined_spec = tie.close (tie.spec (λ c κs. search rules) returns)

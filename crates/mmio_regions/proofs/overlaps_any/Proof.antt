@@ -7,5 +7,5 @@ use Rattle.mmio_regions.proofs.overlaps_any.Tie as tie
 returns : tie.Need-returns
 returns c = first_any _ _ c.find-overlapping.ensures
 
-pub overlaps-any-spec : {M : Type 1} → statement M
-overlaps-any-spec = tie.close (tie.spec (λ c κs. search rules) returns)
+pub overlaps_any_spec : {M : Type 1} → statement M
+overlaps_any_spec = tie.close (tie.spec (λ c κs. search rules) returns)

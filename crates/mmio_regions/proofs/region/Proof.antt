@@ -6,5 +6,5 @@ use Rattle.mmio_regions.proofs.region.Tie as tie
 returns : tie.Need-returns
 returns c i = record { base = c.before.word.ensures i; end = c.word2.ensures i }
 
-pub region-spec : {M : Type 1} → statement M
-region-spec = tie.close (tie.spec (λ c κs. search rules) (λ c κs. search rules) returns)
+pub region_spec : {M : Type 1} → statement M
+region_spec = tie.close (tie.spec (λ c κs. search rules) (λ c κs. search rules) returns)

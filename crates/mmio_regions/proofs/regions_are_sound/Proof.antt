@@ -31,8 +31,8 @@ returns-3 c =
     rw (le-leb (max_regions * region_words) (length args.regions.now) (search rules), le-leb args.count max_regions (search rules))
     (ap₂ ◌&&◌ c.before.before.all-ordered.ensures (c.all-zero.ensures ∙ ap all_zero (unused_part args.regions.now args.count)))
 
-pub regions-are-sound-spec : {M : Type 1} → statement M
-regions-are-sound-spec =
+pub regions_are_sound_spec : {M : Type 1} → statement M
+regions_are_sound_spec =
     tie.close
     (tie.spec
     returns

@@ -26,8 +26,8 @@ returns c =
     let last = c.before.before.before.before.before.loop in
     sweep_done _ _ _ _ _ last.i last.invariant.1 (search rules) (search rules) (search rules) c.before.before.clear.ensures
 
-pub remove-spec : {M : Type 1} → statement M
-remove-spec =
+pub remove_spec : {M : Type 1} → statement M
+remove_spec =
     tie.close
     (tie.spec
     invariant-loop

@@ -9,8 +9,8 @@ use Rattle.mmio_regions.proofs.set_region.Tie as tie
 returns : tie.Need-returns
 returns c = put_place c.args.regions.now c.args.i c.args.region c.requires
 
-pub set-region-spec : {M : Type 1} → statement M
-set-region-spec =
+pub set_region_spec : {M : Type 1} → statement M
+set_region_spec =
     tie.close
     (tie.spec
     (λ c. search rules)

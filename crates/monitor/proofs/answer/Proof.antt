@@ -53,8 +53,8 @@ returns-2 c =
     let start = roomy.before.before.before.before.before.before.before.before.before.before.before in
     rw c.before.longer.ensures (answered_within _ _ _ _ start.args.output.now _ roomy.make-room.ensures replied.answer-line.ensures)
 
-pub answer-spec : {M : Type 1} → statement M
-answer-spec =
+pub answer_spec : {M : Type 1} → statement M
+answer_spec =
     tie.close
     (tie.spec
     (λ c. c.before.before.before.before.before.before.before.before.before.requires)

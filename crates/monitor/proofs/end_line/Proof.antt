@@ -3,8 +3,8 @@ use borrow.Author.Rules.{rules}
 use Rattle.monitor.proofs.end_line.Statement.{statement}
 use Rattle.monitor.proofs.end_line.Tie as tie
 
-pub end-line-spec : {M : Type 1} → statement M
-end-line-spec =
+pub end_line_spec : {M : Type 1} → statement M
+end_line_spec =
     tie.close
     (tie.spec
     (λ c κs. search rules)

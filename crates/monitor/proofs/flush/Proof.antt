@@ -8,5 +8,5 @@ use Rattle.monitor.proofs.flush.Tie as tie
 slice-aggregate-write-all : tie.Need-slice-aggregate-write-all
 slice-aggregate-write-all c = sym (length-take-le _ _ c.before.before.before.requires)
 
-pub flush-spec : {M : Type 1} → statement M
-flush-spec = tie.close (tie.spec (λ c. search rules) slice-aggregate-write-all (λ c κs. search rules) (λ c. search rules))
+pub flush_spec : {M : Type 1} → statement M
+flush_spec = tie.close (tie.spec (λ c. search rules) slice-aggregate-write-all (λ c κs. search rules) (λ c. search rules))

@@ -7,6 +7,6 @@ use Rattle.monitor_exports.proofs.oudrameng_add_mmio_region.Tie as tie
 returns : tie.Need-returns
 returns c = number_told c.before.before.before.before.before.add-mmio-region.ensures c.number.ensures
 
-pub oudrameng-add-mmio-region-spec : {M : Type 1} → statement M
-oudrameng-add-mmio-region-spec =
+pub oudrameng_add_mmio_region_spec : {M : Type 1} → statement M
+oudrameng_add_mmio_region_spec =
     tie.close (tie.spec (λ c κs. search rules) (λ c κs. search rules) (λ c. search rules) (λ c. search rules) returns)

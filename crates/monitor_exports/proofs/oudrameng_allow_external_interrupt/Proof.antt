@@ -7,6 +7,6 @@ use Rattle.monitor_exports.proofs.oudrameng_allow_external_interrupt.Tie as tie
 returns : tie.Need-returns
 returns c = number_told c.before.before.before.allow-external-interrupt.ensures c.number.ensures
 
-pub oudrameng-allow-external-interrupt-spec : {M : Type 1} → statement M
-oudrameng-allow-external-interrupt-spec =
+pub oudrameng_allow_external_interrupt_spec : {M : Type 1} → statement M
+oudrameng_allow_external_interrupt_spec =
     tie.close (tie.spec (λ c κs. search rules) (λ c κs. search rules) (λ c. search rules) returns)

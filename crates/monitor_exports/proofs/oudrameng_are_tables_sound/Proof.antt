@@ -10,6 +10,6 @@ use Rattle.monitor_exports.proofs.oudrameng_are_tables_sound.Tie as tie
 returns : tie.Need-returns
 returns c = c.word_of.ensures ∙ ap (λ (b : Bool). pick {A = ℕ} b 1 0) c.before.are-tables-sound.ensures
 
-pub oudrameng-are-tables-sound-spec : {M : Type 1} → statement M
-oudrameng-are-tables-sound-spec =
+pub oudrameng_are_tables_sound_spec : {M : Type 1} → statement M
+oudrameng_are_tables_sound_spec =
     tie.close (tie.spec (λ c κs. search rules) (λ c κs. search rules) returns)

@@ -13,8 +13,8 @@ returns c = yes _ (lt-ltb _ _ c.if1.true) refl
 returns-2 : tie.Need-returns-2
 returns-2 c = no _ (le-ltb _ _ c.before.before.before.before.before.before.before.before.if1.false) (value_told c.before.before.before.before.before.before.before.before.before.before.before.before.before.before.before.args.value.now c.before.before.before.before.before.before.broadcast-remote-command.ensures c.before.before.tell.ensures)
 
-pub oudrameng-broadcast-remote-command-spec : {M : Type 1} → statement M
-oudrameng-broadcast-remote-command-spec =
+pub oudrameng_broadcast_remote_command_spec : {M : Type 1} → statement M
+oudrameng_broadcast_remote_command_spec =
     tie.close
     (tie.spec
     returns

@@ -15,8 +15,8 @@ returns c = yes _ (lt-ltb _ _ c.if1.true) refl
 returns-2 : tie.Need-returns-2
 returns-2 c = no _ (le-ltb _ _ c.before.before.before.before.before.if1.false) (value_told c.before.before.before.before.before.before.before.before.before.before.before.before.args.value.now c.before.before.before.before.confidential-hart-lifecycle-state.ensures c.before.before.tell.ensures)
 
-pub oudrameng-confidential-hart-lifecycle-state-spec : {M : Type 1} → statement M
-oudrameng-confidential-hart-lifecycle-state-spec =
+pub oudrameng_confidential_hart_lifecycle_state_spec : {M : Type 1} → statement M
+oudrameng_confidential_hart_lifecycle_state_spec =
     tie.close
     (tie.spec
     returns

@@ -16,8 +16,8 @@ returns-2 c =
     (reply_value_told c.before.before.before.before.before.before.before.before.before.before.before.before.before.before.before.before.before.before.before.before.before.before.args.value.now
     c.before.before.before.before.before.before.before.before.before.before.broadcast-remote-command.ensures c.before.before.tell-reply.ensures)
 
-pub oudrameng-flow-broadcast-remote-command-spec : {M : Type 1} → statement M
-oudrameng-flow-broadcast-remote-command-spec =
+pub oudrameng_flow_broadcast_remote_command_spec : {M : Type 1} → statement M
+oudrameng_flow_broadcast_remote_command_spec =
     tie.close
     (tie.spec
     returns

@@ -13,7 +13,7 @@ returns c = yes _ (lt-ltb _ _ c.if1.true) refl
 returns-2 : tie.Need-returns-2
 returns-2 c = no _ (le-ltb _ _ c.before.before.before.before.before.if1.false) (value_told c.before.before.before.before.before.before.before.before.before.before.before.before.args.value.now c.before.before.before.before.is-mmio-region-defined.ensures c.before.before.tell.ensures)
 
-pub oudrameng-is-mmio-region-defined-spec : {M : Type 1} → statement M
-oudrameng-is-mmio-region-defined-spec =
+pub oudrameng_is_mmio_region_defined_spec : {M : Type 1} → statement M
+oudrameng_is_mmio_region_defined_spec =
     tie.close
     (tie.spec returns (λ c κs. search rules) (λ c κs. search rules) (λ c. search rules) returns-2)

@@ -7,8 +7,8 @@ use Rattle.monitor_exports.proofs.oudrameng_new.Tie as tie
 returns : tie.Need-returns
 returns c = number_told c.before.before.before.before.before.before.before.before.before.before.before.new.ensures c.number.ensures
 
-pub oudrameng-new-spec : {M : Type 1} → statement M
-oudrameng-new-spec =
+pub oudrameng_new_spec : {M : Type 1} → statement M
+oudrameng_new_spec =
     tie.close
     (tie.spec
     (λ c κs. search rules)

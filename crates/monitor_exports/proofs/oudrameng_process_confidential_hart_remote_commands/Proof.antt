@@ -16,8 +16,8 @@ returns-2 c =
     (reply_value_told c.before.before.before.before.before.before.before.before.before.before.before.before.before.before.before.before.before.before.before.before.before.before.args.value.now
     c.before.before.before.before.before.before.before.before.before.before.process-confidential-hart-remote-commands.ensures c.before.before.tell-reply.ensures)
 
-pub oudrameng-process-confidential-hart-remote-commands-spec : {M : Type 1} → statement M
-oudrameng-process-confidential-hart-remote-commands-spec =
+pub oudrameng_process_confidential_hart_remote_commands_spec : {M : Type 1} → statement M
+oudrameng_process_confidential_hart_remote_commands_spec =
     tie.close
     (tie.spec
     returns

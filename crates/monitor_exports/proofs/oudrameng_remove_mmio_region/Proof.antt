@@ -7,7 +7,7 @@ use Rattle.monitor_exports.proofs.oudrameng_remove_mmio_region.Tie as tie
 returns : tie.Need-returns
 returns c = number_told c.before.before.before.before.before.remove-mmio-region.ensures c.number.ensures
 
-pub oudrameng-remove-mmio-region-spec : {M : Type 1} → statement M
-oudrameng-remove-mmio-region-spec =
+pub oudrameng_remove_mmio_region_spec : {M : Type 1} → statement M
+oudrameng_remove_mmio_region_spec =
     tie.close
     (tie.spec (λ c κs. search rules) (λ c κs. search rules) (λ c. search rules) (λ c. search rules) returns)

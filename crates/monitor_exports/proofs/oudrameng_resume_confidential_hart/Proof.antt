@@ -7,5 +7,5 @@ use Rattle.monitor_exports.proofs.oudrameng_resume_confidential_hart.Tie as tie
 returns : tie.Need-returns
 returns c = number_told c.before.before.before.resume-confidential-hart.ensures c.number.ensures
 
-pub oudrameng-resume-confidential-hart-spec : {M : Type 1} → statement M
-oudrameng-resume-confidential-hart-spec = tie.close (tie.spec (λ c κs. search rules) (λ c κs. search rules) (λ c. search rules) returns)
+pub oudrameng_resume_confidential_hart_spec : {M : Type 1} → statement M
+oudrameng_resume_confidential_hart_spec = tie.close (tie.spec (λ c κs. search rules) (λ c κs. search rules) (λ c. search rules) returns)

@@ -16,8 +16,8 @@ returns-2 c =
     (reply_value_told c.before.before.before.before.before.before.before.before.before.before.before.before.before.before.before.before.before.before.before.before.before.before.args.value.now
     c.before.before.before.before.before.before.before.before.before.before.resume-confidential-hart-execution.ensures c.before.before.tell-reply.ensures)
 
-pub oudrameng-resume-confidential-hart-execution-spec : {M : Type 1} → statement M
-oudrameng-resume-confidential-hart-execution-spec =
+pub oudrameng_resume_confidential_hart_execution_spec : {M : Type 1} → statement M
+oudrameng_resume_confidential_hart_execution_spec =
     tie.close
     (tie.spec
     returns

@@ -7,7 +7,7 @@ use Rattle.monitor_exports.proofs.oudrameng_return_confidential_hart.Tie as tie
 returns : tie.Need-returns
 returns c = number_told c.before.before.before.before.before.return-confidential-hart.ensures c.number.ensures
 
-pub oudrameng-return-confidential-hart-spec : {M : Type 1} → statement M
-oudrameng-return-confidential-hart-spec =
+pub oudrameng_return_confidential_hart_spec : {M : Type 1} → statement M
+oudrameng_return_confidential_hart_spec =
     tie.close
     (tie.spec (λ c κs. search rules) (λ c κs. search rules) (λ c. search rules) (λ c. search rules) returns)

@@ -7,5 +7,5 @@ use Rattle.monitor_exports.proofs.oudrameng_set_resumable_operation.Tie as tie
 returns : tie.Need-returns
 returns c = number_told c.before.before.before.set-resumable-operation.ensures c.number.ensures
 
-pub oudrameng-set-resumable-operation-spec : {M : Type 1} → statement M
-oudrameng-set-resumable-operation-spec = tie.close (tie.spec (λ c κs. search rules) (λ c κs. search rules) (λ c. search rules) returns)
+pub oudrameng_set_resumable_operation_spec : {M : Type 1} → statement M
+oudrameng_set_resumable_operation_spec = tie.close (tie.spec (λ c κs. search rules) (λ c κs. search rules) (λ c. search rules) returns)

@@ -7,5 +7,5 @@ use Rattle.monitor_exports.proofs.oudrameng_shutdown_confidential_hart.Tie as ti
 returns : tie.Need-returns
 returns c = number_told c.before.before.before.shutdown-confidential-hart.ensures c.number.ensures
 
-pub oudrameng-shutdown-confidential-hart-spec : {M : Type 1} → statement M
-oudrameng-shutdown-confidential-hart-spec = tie.close (tie.spec (λ c κs. search rules) (λ c κs. search rules) (λ c. search rules) returns)
+pub oudrameng_shutdown_confidential_hart_spec : {M : Type 1} → statement M
+oudrameng_shutdown_confidential_hart_spec = tie.close (tie.spec (λ c κs. search rules) (λ c κs. search rules) (λ c. search rules) returns)

@@ -7,6 +7,6 @@ use Rattle.monitor_exports.proofs.oudrameng_start_confidential_hart.Tie as tie
 returns : tie.Need-returns
 returns c = number_told c.before.before.before.start-confidential-hart.ensures c.number.ensures
 
-pub oudrameng-start-confidential-hart-spec : {M : Type 1} → statement M
-oudrameng-start-confidential-hart-spec =
+pub oudrameng_start_confidential_hart_spec : {M : Type 1} → statement M
+oudrameng_start_confidential_hart_spec =
     tie.close (tie.spec (λ c κs. search rules) (λ c κs. search rules) (λ c. search rules) returns)

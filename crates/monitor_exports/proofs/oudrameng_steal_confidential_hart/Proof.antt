@@ -13,8 +13,8 @@ returns c = yes _ (lt-ltb _ _ c.if1.true) refl
 returns-2 : tie.Need-returns-2
 returns-2 c = no _ (le-ltb _ _ c.before.before.before.before.before.before.before.before.before.before.before.if1.false) (value_told c.before.before.before.before.before.before.before.before.before.before.before.before.before.before.before.before.before.before.args.value.now c.before.before.before.before.before.before.before.before.steal-confidential-hart.ensures c.before.before.tell.ensures)
 
-pub oudrameng-steal-confidential-hart-spec : {M : Type 1} → statement M
-oudrameng-steal-confidential-hart-spec =
+pub oudrameng_steal_confidential_hart_spec : {M : Type 1} → statement M
+oudrameng_steal_confidential_hart_spec =
     tie.close
     (tie.spec
     returns

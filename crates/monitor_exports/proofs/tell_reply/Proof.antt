@@ -7,8 +7,8 @@ use Rattle.monitor_exports.proofs.tell_reply.Tie as tie
 returns : tie.Need-returns
 returns c = count_before c.before.before.before.before.before.args.given c.before.before.before.before.before.args.value.now c.before.before.before.before.before.requires c.before.before.tell.ensures
 
-pub tell-reply-spec : {M : Type 1} → statement M
-tell-reply-spec =
+pub tell_reply_spec : {M : Type 1} → statement M
+tell_reply_spec =
     tie.close
     (tie.spec
     (λ c. search rules)

@@ -20,8 +20,8 @@ returns-2 c =
     let room = performs.before.before.before.before.before.before.before in
     turn_is _ _ _ _ _ _ _ _ _ _ _ room.if1.false performs.perform-line.ensures numbers.number.ensures prints.print.ensures
 
-pub answer-line-spec : {M : Type 1} → statement M
-answer-line-spec =
+pub answer_line_spec : {M : Type 1} → statement M
+answer_line_spec =
     tie.close
     (tie.spec
     returns

@@ -10,8 +10,8 @@ returns-2 : tie.Need-returns-2
 unfolding line_outcome
 returns-2 c = rw (c.before.enum_told.given.1, c.refused.ensures)
 
-pub perform-line-spec : {M : Type 1} → statement M
-perform-line-spec =
+pub perform_line_spec : {M : Type 1} → statement M
+perform_line_spec =
     tie.close
     (tie.spec
     (λ c. search rules)

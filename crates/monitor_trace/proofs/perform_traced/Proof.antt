@@ -18,8 +18,8 @@ returns-3 : tie.Need-returns-3
 unfolding line_outcome
 returns-3 c = rw c.before.before.before.line2.given.1 (no _ c.before.if1.false (rw c.refused.ensures))
 
-pub perform-traced-spec : {M : Type 1} → statement M
-perform-traced-spec =
+pub perform_traced_spec : {M : Type 1} → statement M
+perform_traced_spec =
     tie.close
     (tie.spec
     (λ c. search rules)

@@ -37,8 +37,8 @@ returns-4 c =
     rw (room_kept start.args.request _ start.args.effects.now (plain start.args.request rest.match.keys4))
     (ap (with_room start.args.effects.now) did.perform-without-effects.ensures)
 
-pub perform-spec : {M : Type 1} → statement M
-perform-spec =
+pub perform_spec : {M : Type 1} → statement M
+perform_spec =
     tie.close
     (tie.spec
     (λ c. c.match.keys1)

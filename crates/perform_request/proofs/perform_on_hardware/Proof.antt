@@ -40,8 +40,8 @@ returns-8 c =
     let start = c.before.before.before.before.before.before.before.before in
     rw (alone_home start.args.request start.requires c.before.before.match.keys8) c.is-vm-executing.ensures
 
-pub perform-on-hardware-spec : {M : Type 1} → statement M
-perform-on-hardware-spec =
+pub perform_on_hardware_spec : {M : Type 1} → statement M
+perform_on_hardware_spec =
     tie.close
     (tie.spec
     (λ c. search rules)

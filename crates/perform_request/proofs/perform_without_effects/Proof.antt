@@ -45,8 +45,8 @@ returns-7 c =
     let did = c.before.before.before.before in
     rw did.before.before.before.before.before.before.before.request7.given.1 did.remove-mmio-region.ensures
 
-pub perform-without-effects-spec : {M : Type 1} → statement M
-perform-without-effects-spec =
+pub perform_without_effects_spec : {M : Type 1} → statement M
+perform_without_effects_spec =
     tie.close
     (tie.spec
     (λ c. c.match.keys1)

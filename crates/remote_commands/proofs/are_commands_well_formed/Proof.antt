@@ -30,8 +30,8 @@ loop-again c = (search rules, rw (add-one, ← c.before.before.before.loop.invar
 returns : tie.Need-returns invariant-loop decreases-loop
 returns c = c.before.loop.invariant.1 ∙ ap (every _) (le_antisymm (search rules) (search rules))
 
-pub are-commands-well-formed-spec : {M : Type 1} → statement M
-are-commands-well-formed-spec =
+pub are_commands_well_formed_spec : {M : Type 1} → statement M
+are_commands_well_formed_spec =
     tie.close
     (tie.spec
     invariant-loop

@@ -13,8 +13,8 @@ returns c =
     let start = c.before.before.before in
     c.from-words.ensures ∙ ap from_words (part_place command_words start.args.queue.now start.args.i)
 
-pub command-spec : {M : Type 1} → statement M
-command-spec =
+pub command_spec : {M : Type 1} → statement M
+command_spec =
     tie.close
     (tie.spec
     (λ c. search rules)

@@ -11,5 +11,5 @@ returns : tie.Need-returns
 unfolding emptied
 returns c = c.before.before.clear.ensures ∙ ap (λ (n : ℕ). replicate n 0) c.before.before.before.before.before.requires
 
-pub empty-spec : {M : Type 1} → statement M
-empty-spec = tie.close (tie.spec (λ c κs. search rules) (λ c. search rules) returns)
+pub empty_spec : {M : Type 1} → statement M
+empty_spec = tie.close (tie.spec (λ c κs. search rules) (λ c. search rules) returns)

@@ -19,8 +19,8 @@ returns-2 c =
     let w = c.before.before in
     rw (le-leb _ _ w.before.if1.false, w.are-commands-well-formed.ensures, c.all-zero.ensures, rest_part, drop-drop)
 
-pub is-queue-well-formed-spec : {M : Type 1} → statement M
-is-queue-well-formed-spec =
+pub is_queue_well_formed_spec : {M : Type 1} → statement M
+is_queue_well_formed_spec =
     tie.close
     (tie.spec
     (λ c. search rules)

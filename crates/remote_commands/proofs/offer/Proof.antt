@@ -27,8 +27,8 @@ returns-3 c =
     no _ (lt-leb _ _ f.before.before.if1.false)
     (no _ (sym f.find.ensures ∙ t.if2.false) (ap (offer done) p.push.ensures))
 
-pub offer-spec : {M : Type 1} → statement M
-offer-spec =
+pub offer_spec : {M : Type 1} → statement M
+offer_spec =
     tie.close
     (tie.spec
     (λ c. search rules)

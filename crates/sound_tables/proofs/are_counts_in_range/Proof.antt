@@ -6,5 +6,5 @@ use Rattle.sound_tables.proofs.are_counts_in_range.Tie as tie
 returns : tie.Need-returns
 returns c = refl
 
-pub are-counts-in-range-spec : {M : Type 1} → statement M
-are-counts-in-range-spec = tie.close (tie.spec returns)
+pub are_counts_in_range_spec : {M : Type 1} → statement M
+are_counts_in_range_spec = tie.close (tie.spec returns)

@@ -9,5 +9,5 @@ returns : tie.Need-returns
 unfolding long_enough
 returns c = refl
 
-pub are-long-enough-spec : {M : Type 1} → statement M
-are-long-enough-spec = tie.close (tie.spec (λ c. search rules) (λ c. search rules) (λ c. search rules) returns)
+pub are_long_enough_spec : {M : Type 1} → statement M
+are_long_enough_spec = tie.close (tie.spec (λ c. search rules) (λ c. search rules) (λ c. search rules) returns)

@@ -32,8 +32,8 @@ loop-again c = (
 returns-2 : tie.Need-returns-2 invariant-loop decreases-loop
 returns-2 c = every_all _ _ _ c.before.loop.invariant.1 (search rules) (search rules)
 
-pub are-rows-sound-spec : {M : Type 1} → statement M
-are-rows-sound-spec =
+pub are_rows_sound_spec : {M : Type 1} → statement M
+are_rows_sound_spec =
     tie.close
     (tie.spec
     invariant-loop

@@ -55,8 +55,8 @@ returns-4 c =
     d.are-queues-sound.ensures
     c.regions-are-sound.ensures
 
-pub are-tables-sound-spec : {M : Type 1} → statement M
-are-tables-sound-spec =
+pub are_tables_sound_spec : {M : Type 1} → statement M
+are_tables_sound_spec =
     tie.close
     (tie.spec
     returns

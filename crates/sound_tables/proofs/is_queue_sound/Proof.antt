@@ -9,8 +9,8 @@ use Rattle.sound_tables.proofs.is_queue_sound.Tie as tie
 returns : tie.Need-returns
 returns c = c.is-queue-well-formed.ensures ∙ ap queue_well_formed (part_row queue_words _ _)
 
-pub is-queue-sound-spec : {M : Type 1} → statement M
-is-queue-sound-spec =
+pub is_queue_sound_spec : {M : Type 1} → statement M
+is_queue_sound_spec =
     tie.close
     (tie.spec
     (λ c. search rules)

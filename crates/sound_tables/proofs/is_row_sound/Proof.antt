@@ -42,8 +42,8 @@ returns-4 c =
     c.before.vm2.ensures
     c.id2.ensures
 
-pub is-row-sound-spec : {M : Type 1} → statement M
-is-row-sound-spec =
+pub is_row_sound_spec : {M : Type 1} → statement M
+is_row_sound_spec =
     tie.close
     (tie.spec
     (λ c. search rules)

@@ -26,8 +26,8 @@ returns : tie.Need-returns invariant-loop decreases-loop
 unfolding all_zero
 returns c = c.before.loop.invariant.1 ∙ ap (every _) (le_antisymm (search rules) (search rules))
 
-pub all-zero-spec : {M : Type 1} → statement M
-all-zero-spec =
+pub all_zero_spec : {M : Type 1} → statement M
+all_zero_spec =
     tie.close
     (tie.spec
     invariant-loop

@@ -20,8 +20,8 @@ returns c =
     ∙ ap (put w rows i)
     (c.before.before.clear.ensures ∙ ap (λ (n : ℕ). replicate n 0) (ap length (part_row w rows i) ∙ row_length w rows i start.requires))
 
-pub clear-row-spec : {M : Type 1} → statement M
-clear-row-spec =
+pub clear_row_spec : {M : Type 1} → statement M
+clear_row_spec =
     tie.close
     (tie.spec
     (λ c. search rules)

@@ -7,8 +7,8 @@ use Rattle.table_rows.proofs.set_word.Tie as tie
 returns : tie.Need-returns
 returns c = set_word _ _ _ c.requires.0 _ _ c.requires.1
 
-pub set-word-spec : {M : Type 1} → statement M
-set-word-spec =
+pub set_word_spec : {M : Type 1} → statement M
+set_word_spec =
     tie.close
     (tie.spec
     (λ c. search rules)

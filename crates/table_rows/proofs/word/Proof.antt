@@ -10,8 +10,8 @@ returns : tie.Need-returns
 unfolding word_at
 returns c = sym (row_word _ _ _ _ c.before.requires.1)
 
-pub word-spec : {M : Type 1} → statement M
-word-spec =
+pub word_spec : {M : Type 1} → statement M
+word_spec =
     tie.close
     (tie.spec
     (λ c. search rules)

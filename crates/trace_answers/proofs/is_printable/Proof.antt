@@ -13,5 +13,5 @@ returns-2 : tie.Need-returns-2
 unfolding printable
 returns-2 c = rw (le-leb _ _ c.if1.false)
 
-pub is-printable-spec : {M : Type 1} → statement M
-is-printable-spec = tie.close (tie.spec returns (λ c. search rules) returns-2)
+pub is_printable_spec : {M : Type 1} → statement M
+is_printable_spec = tie.close (tie.spec returns (λ c. search rules) returns-2)

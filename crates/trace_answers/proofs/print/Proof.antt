@@ -45,8 +45,8 @@ returns-2 c =
     (put_then (omega (arith, dids_most start.args.effects.now start.args.answer.did)) replied.put-answer.ensures
     c.before.before.put_byte.ensures))
 
-pub print-spec : {M : Type 1} → statement M
-print-spec =
+pub print_spec : {M : Type 1} → statement M
+print_spec =
     tie.close
     (tie.spec
     (λ c κs. search rules)

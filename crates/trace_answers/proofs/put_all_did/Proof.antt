@@ -36,8 +36,8 @@ loop-again c =
 returns : tie.Need-returns invariant-loop decreases-loop
 returns c = rw (le_antisymm c.before.loop.invariant.0 (omega arith)) at c.before.loop.invariant.2
 
-pub put-all-did-spec : {M : Type 1} → statement M
-put-all-did-spec =
+pub put_all_did_spec : {M : Type 1} → statement M
+put_all_did_spec =
     tie.close
     (tie.spec
     invariant-loop

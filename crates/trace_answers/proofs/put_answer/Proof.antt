@@ -34,8 +34,8 @@ returns c =
     put_as (told_line number.before.before.before.told.ensures)
     (put_then (omega arith) (put_then (omega arith) number.put-number.ensures word.put-word-of.ensures) c.before.before.put-numbers.ensures)
 
-pub put-answer-spec : {M : Type 1} → statement M
-put-answer-spec =
+pub put_answer_spec : {M : Type 1} → statement M
+put_answer_spec =
     tie.close
     (tie.spec
     (λ c κs. search rules)

@@ -40,8 +40,8 @@ returns c =
     put_then (omega arith) (put_as word_did word.put_word.ensures)
     (put_then (omega (arith, ap length word_did)) (put_as (ap numbers part) written.put-numbers.ensures) c.before.before.put_byte.ensures)
 
-pub put-did-spec : {M : Type 1} → statement M
-put-did-spec =
+pub put_did_spec : {M : Type 1} → statement M
+put_did_spec =
     tie.close
     (tie.spec
     (λ c. search rules)

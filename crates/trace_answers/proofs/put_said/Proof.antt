@@ -8,5 +8,5 @@ use Rattle.trace_answers.proofs.put_said.Tie as tie
 returns : tie.Need-returns
 returns c = put_then (omega arith) c.before.before.before.before.before.before.put_byte.ensures c.before.before.put_word.ensures
 
-pub put-said-spec : {M : Type 1} → statement M
-put-said-spec = tie.close (tie.spec (λ c κs. search rules) (λ c κs. search rules) (λ c. search rules) returns)
+pub put_said_spec : {M : Type 1} → statement M
+put_said_spec = tie.close (tie.spec (λ c κs. search rules) (λ c κs. search rules) (λ c. search rules) returns)

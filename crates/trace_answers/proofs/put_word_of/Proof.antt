@@ -37,8 +37,8 @@ returns-3 c = put_as (said c.before.before.before.before.enum-told3.given.1 word
 returns-4 : tie.Need-returns-4
 returns-4 c = put_as (said c.before.before.before.before.enum-told4.given.1 word_op) c.before.before.put-said3.ensures
 
-pub put-word-of-spec : {M : Type 1} → statement M
-put-word-of-spec =
+pub put_word_of_spec : {M : Type 1} → statement M
+put_word_of_spec =
     tie.close
     (tie.spec
     (λ c. search rules)

@@ -9,5 +9,5 @@ returns c =
     let parses = writes.before.before in
     record { said = parses.parse.result; reads = parses.parse.ensures; writes = writes.rewrite.ensures }
 
-pub oudrameng-rewrite-line-spec : {M : Type 1} → statement M
-oudrameng-rewrite-line-spec = tie.close (tie.spec (λ c κs. search rules) (λ c κs. search rules) (λ c. search rules) returns)
+pub oudrameng_rewrite_line_spec : {M : Type 1} → statement M
+oudrameng_rewrite_line_spec = tie.close (tie.spec (λ c κs. search rules) (λ c κs. search rules) (λ c. search rules) returns)

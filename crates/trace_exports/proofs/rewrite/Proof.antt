@@ -14,7 +14,7 @@ returns-2 : tie.Need-returns-2
 unfolding rewritten
 returns-2 c = rw c.enum_told.given.1
 
-pub rewrite-spec : {M : Type 1} → statement M
-rewrite-spec =
+pub rewrite_spec : {M : Type 1} → statement M
+rewrite_spec =
     tie.close
     (tie.spec (λ c. search rules) (λ c κs. search rules) (λ c. search rules) (λ c. search rules) returns returns-2)

@@ -10,5 +10,5 @@ returns c =
     let e = c.before.before.close.ensures in
     (ap (λ (x : Reading). x.line.count) e, ap (λ (x : Reading). x.fields) e)
 
-pub end-spec : {M : Type 1} → statement M
-end-spec = tie.close (tie.spec (λ c κs. search rules) (λ c. search rules) returns)
+pub end_spec : {M : Type 1} → statement M
+end_spec = tie.close (tie.spec (λ c κs. search rules) (λ c. search rules) returns)

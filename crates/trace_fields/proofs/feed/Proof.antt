@@ -23,8 +23,8 @@ returns-3 c =
     let fields = c.before.before.before.before.before.args.fields.now in
     no _ (search tests) (no _ (search tests) (ap (λ (l : Line). reading l fields) c.digit.ensures))
 
-pub feed-spec : {M : Type 1} → statement M
-feed-spec =
+pub feed_spec : {M : Type 1} → statement M
+feed_spec =
     tie.close
     (tie.spec
     (λ c κs. search rules)

@@ -6,6 +6,6 @@ use Rattle.trace_rendering.proofs.put_command.Tie as tie
 returns : tie.Need-returns
 returns c = c.before.before.put-line.ensures
 
-pub put-command-spec : {M : Type 1} → statement M
-put-command-spec =
+pub put_command_spec : {M : Type 1} → statement M
+put_command_spec =
     tie.close (tie.spec (λ c. search rules) (λ c κs. search rules) (λ c. search rules) returns)

@@ -18,5 +18,5 @@ returns : tie.Need-returns
 returns c =
     put_then (omega arith) c.before.before.before.before.before.before.put_word.ensures c.before.before.put-numbers.ensures
 
-pub put-line-spec : {M : Type 1} → statement M
-put-line-spec = tie.close (tie.spec put-word-requires put-numbers-requires (λ c. search rules) returns)
+pub put_line_spec : {M : Type 1} → statement M
+put_line_spec = tie.close (tie.spec put-word-requires put-numbers-requires (λ c. search rules) returns)

@@ -6,5 +6,5 @@ use Rattle.trace_rendering.proofs.put_one.Tie as tie
 returns : tie.Need-returns
 returns c = c.before.before.put-line.ensures
 
-pub put-one-spec : {M : Type 1} → statement M
-put-one-spec = tie.close (tie.spec (λ c. search rules) (λ c κs. search rules) (λ c. search rules) returns)
+pub put_one_spec : {M : Type 1} → statement M
+put_one_spec = tie.close (tie.spec (λ c. search rules) (λ c κs. search rules) (λ c. search rules) returns)

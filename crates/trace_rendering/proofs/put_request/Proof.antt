@@ -79,8 +79,8 @@ returns-18 : tie.Need-returns-18
 unfolding spelling
 returns-18 c = in_case (ap Ask c.before.before.before.before.before.request17.given.1) c.before.before.put-one8.ensures
 
-pub put-request-spec : {M : Type 1} → statement M
-put-request-spec =
+pub put_request_spec : {M : Type 1} → statement M
+put_request_spec =
     tie.close
     (tie.spec
     (λ c. c.match.keys1)

@@ -13,6 +13,6 @@ returns c =
     let s = c.before.before.before.before.before.before.args.s in
     in_case {request = SetUp s} refl c.before.before.put-line.ensures
 
-pub put-setup-spec : {M : Type 1} → statement M
-put-setup-spec =
+pub put_setup_spec : {M : Type 1} → statement M
+put_setup_spec =
     tie.close (tie.spec (λ c. search rules) (λ c κs. search rules) (λ c. search rules) returns)

@@ -12,8 +12,8 @@ returns c = put_as (sym (ap line_of c.before.before.before.before.before.line.gi
 returns-2 : tie.Need-returns-2
 returns-2 c = put_as (sym (ap line_of c.before.before.before.before.before.line2.given.1)) c.before.before.put-request.ensures
 
-pub put-trace-line-spec : {M : Type 1} → statement M
-put-trace-line-spec =
+pub put_trace_line_spec : {M : Type 1} → statement M
+put_trace_line_spec =
     tie.close
     (tie.spec
     (λ c. search rules)

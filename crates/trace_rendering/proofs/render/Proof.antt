@@ -11,5 +11,5 @@ returns c = nothing_put _ _ c.if1.true
 returns-2 : tie.Need-returns-2
 returns-2 c = line_put _ _ (omega arith) c.before.before.put-trace-line.ensures
 
-pub render-spec : {M : Type 1} → statement M
-render-spec = tie.close (tie.spec returns (λ c κs. search rules) (λ c. search rules) returns-2)
+pub render_spec : {M : Type 1} → statement M
+render_spec = tie.close (tie.spec returns (λ c κs. search rules) (λ c. search rules) returns-2)

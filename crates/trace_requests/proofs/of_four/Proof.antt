@@ -6,9 +6,9 @@ use Rattle.trace_requests.proofs.FieldRequestLaws.{by_word_lem}
 use Rattle.trace_requests.proofs.of_four.Statement.{statement}
 use Rattle.trace_requests.proofs.of_four.Tie as tie
 
-pub of-four-spec : {M : Type 1} → statement M
+pub of_four_spec : {M : Type 1} → statement M
 unfolding of_four spelling
-of-four-spec =
+of_four_spec =
     tie.close
     (tie.spec
     (λ c κs. search rules)

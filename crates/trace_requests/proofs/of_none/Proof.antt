@@ -6,9 +6,9 @@ use Rattle.trace_requests.proofs.FieldRequestLaws.{by_word_lem}
 use Rattle.trace_requests.proofs.of_none.Statement.{statement}
 use Rattle.trace_requests.proofs.of_none.Tie as tie
 
-pub of-none-spec : {M : Type 1} → statement M
+pub of_none_spec : {M : Type 1} → statement M
 unfolding of_none spelling
-of-none-spec =
+of_none_spec =
     tie.close
     (tie.spec
     (λ c κs. search rules)

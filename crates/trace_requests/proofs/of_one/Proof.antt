@@ -6,9 +6,9 @@ use Rattle.trace_requests.proofs.FieldRequestLaws.{by_word_lem}
 use Rattle.trace_requests.proofs.of_one.Statement.{statement}
 use Rattle.trace_requests.proofs.of_one.Tie as tie
 
-pub of-one-spec : {M : Type 1} → statement M
+pub of_one_spec : {M : Type 1} → statement M
 unfolding of_one spelling
-of-one-spec =
+of_one_spec =
     tie.close
     (tie.spec
     (λ c κs. search rules)

@@ -6,9 +6,9 @@ use Rattle.trace_requests.proofs.FieldRequestLaws.{by_word_lem}
 use Rattle.trace_requests.proofs.of_seven.Statement.{statement}
 use Rattle.trace_requests.proofs.of_seven.Tie as tie
 
-pub of-seven-spec : {M : Type 1} → statement M
+pub of_seven_spec : {M : Type 1} → statement M
 unfolding of_seven spelling
-of-seven-spec =
+of_seven_spec =
     tie.close
     (tie.spec
     (λ c. search by_word_lem depth 12)

@@ -6,9 +6,9 @@ use Rattle.trace_requests.proofs.FieldRequestLaws.{by_word_lem}
 use Rattle.trace_requests.proofs.of_three.Statement.{statement}
 use Rattle.trace_requests.proofs.of_three.Tie as tie
 
-pub of-three-spec : {M : Type 1} → statement M
+pub of_three_spec : {M : Type 1} → statement M
 unfolding of_three spelling
-of-three-spec =
+of_three_spec =
     tie.close
     (tie.spec
     (λ c κs. search rules)

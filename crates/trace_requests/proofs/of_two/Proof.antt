@@ -6,9 +6,9 @@ use Rattle.trace_requests.proofs.FieldRequestLaws.{by_word_lem}
 use Rattle.trace_requests.proofs.of_two.Statement.{statement}
 use Rattle.trace_requests.proofs.of_two.Tie as tie
 
-pub of-two-spec : {M : Type 1} → statement M
+pub of_two_spec : {M : Type 1} → statement M
 unfolding of_two spelling
-of-two-spec =
+of_two_spec =
     tie.close
     (tie.spec
     (λ c κs. search rules)

@@ -9,8 +9,8 @@ returns c =
     let read = c.before.before.before.before in
     reads_read _ (search rules) _ read.before.before.start.ensures read.read.ensures c.before.request.ensures.0
 
-pub parse-spec : {M : Type 1} → statement M
-parse-spec =
+pub parse_spec : {M : Type 1} → statement M
+parse_spec =
     tie.close
     (tie.spec
     (λ c κs. search rules)

@@ -29,8 +29,8 @@ returns c =
     let x : Reading = reading start.args.line start.args.fields.now in
     (tells_part x ended.end.ensures.0 ended.end.ensures.1 c.request-of.ensures, ended.end.ensures.1)
 
-pub request-spec : {M : Type 1} → statement M
-request-spec =
+pub request_spec : {M : Type 1} → statement M
+request_spec =
     tie.close
     (tie.spec
     (λ c κs. search rules)

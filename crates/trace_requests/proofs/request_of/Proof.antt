@@ -44,8 +44,8 @@ returns-6 c =
 returns-7 : tie.Need-returns-7
 returns-7 c = other_count _ (search rules) (search rules) (search rules) (search rules) (search rules) (search rules)
 
-pub request-of-spec : {M : Type 1} → statement M
-request-of-spec =
+pub request_of_spec : {M : Type 1} → statement M
+request_of_spec =
     tie.close
     (tie.spec
     (λ c. search rules)

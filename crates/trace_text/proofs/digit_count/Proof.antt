@@ -38,6 +38,6 @@ returns c =
     let start = c.before.before in
     omega (arith, ap length (spelled_one start.args.base 0 start.requires c.before.loop.left (omega arith) (omega arith)))
 
-pub digit-count-spec : {M : Type 1} → statement M
-digit-count-spec =
+pub digit_count_spec : {M : Type 1} → statement M
+digit_count_spec =
     tie.close (tie.spec invariant-loop decreases-loop loop-holds (λ c. omega arith) add-count loop-less loop-again returns)

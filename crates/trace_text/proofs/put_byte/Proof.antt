@@ -8,5 +8,5 @@ use Rattle.trace_text.proofs.put_byte.Tie as tie
 returns : tie.Need-returns
 returns c = record { ends = refl; leaves = written_one c.args.at c.args.byte c.args.out.now c.requires }
 
-pub put-byte-spec : {M : Type 1} → statement M
-put-byte-spec = tie.close (tie.spec (λ c. search rules) (λ c. search rules) (λ c. search rules) returns)
+pub put_byte_spec : {M : Type 1} → statement M
+put_byte_spec = tie.close (tie.spec (λ c. search rules) (λ c. search rules) (λ c. search rules) returns)

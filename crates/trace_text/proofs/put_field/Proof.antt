@@ -9,5 +9,5 @@ returns : tie.Need-returns
 returns c =
     put_then (omega arith) c.before.before.before.before.before.before.put_byte.ensures c.before.before.put-number.ensures
 
-pub put-field-spec : {M : Type 1} → statement M
-put-field-spec = tie.close (tie.spec (λ c κs. search rules) (λ c κs. search rules) (λ c. search rules) returns)
+pub put_field_spec : {M : Type 1} → statement M
+put_field_spec = tie.close (tie.spec (λ c κs. search rules) (λ c κs. search rules) (λ c. search rules) returns)

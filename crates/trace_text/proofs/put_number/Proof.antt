@@ -6,5 +6,5 @@ use Rattle.trace_text.proofs.put_number.Tie as tie
 returns : tie.Need-returns
 returns c = c.before.before.put-spelled.ensures
 
-pub put-number-spec : {M : Type 1} → statement M
-put-number-spec = tie.close (tie.spec (λ c κs. search rules) (λ c. search rules) returns)
+pub put_number_spec : {M : Type 1} → statement M
+put_number_spec = tie.close (tie.spec (λ c κs. search rules) (λ c. search rules) returns)

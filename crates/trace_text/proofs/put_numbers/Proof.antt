@@ -43,8 +43,8 @@ returns c =
     let ns = c.before.before.before.before.args.ns.now in
     left_none (rw (drop_of_length-le ns {i = c.before.loop.i} (omega arith)) at c.before.loop.invariant.2)
 
-pub put-numbers-spec : {M : Type 1} → statement M
-put-numbers-spec =
+pub put_numbers_spec : {M : Type 1} → statement M
+put_numbers_spec =
     tie.close
     (tie.spec
     invariant-loop

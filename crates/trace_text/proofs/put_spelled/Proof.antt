@@ -24,6 +24,6 @@ returns c =
       leaves = c.before.before.store-digits.ensures;
     }
 
-pub put-spelled-spec : {M : Type 1} → statement M
-put-spelled-spec =
+pub put_spelled_spec : {M : Type 1} → statement M
+put_spelled_spec =
     tie.close (tie.spec (λ c κs. search rules) add-end store-digits-requires (λ c. search rules) returns)

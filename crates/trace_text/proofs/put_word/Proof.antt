@@ -6,5 +6,5 @@ use Rattle.trace_text.proofs.put_word.Tie as tie
 returns : tie.Need-returns
 returns c = c.before.before.put-spelled.ensures
 
-pub put-word-spec : {M : Type 1} → statement M
-put-word-spec = tie.close (tie.spec (λ c κs. search rules) (λ c. search rules) returns)
+pub put_word_spec : {M : Type 1} → statement M
+put_word_spec = tie.close (tie.spec (λ c κs. search rules) (λ c. search rules) returns)

@@ -82,8 +82,8 @@ returns c =
     ∙ ap (λ (l : List ℕ). written at l out) (sym one)
     ∙ c.before.loop.invariant.4
 
-pub store-digits-spec : {M : Type 1} → statement M
-store-digits-spec =
+pub store_digits_spec : {M : Type 1} → statement M
+store_digits_spec =
     tie.close
     (tie.spec
     invariant-loop

@@ -50,8 +50,8 @@ returns-4 c =
     (no _ (sym real.before.is-dummy.ensures ∙ real.if2.false)
     (number_becomes start.args.change _ start.args.self _ c.before.lifecycle-change.ensures c.if3.false))
 
-pub change-spec : {M : Type 1} → statement M
-change-spec =
+pub change_spec : {M : Type 1} → statement M
+change_spec =
     tie.close
     (tie.spec
     (λ c κs. search rules)

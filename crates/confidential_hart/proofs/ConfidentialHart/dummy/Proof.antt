@@ -6,5 +6,5 @@ use Rattle.confidential_hart.proofs.ConfidentialHart.dummy.Tie as tie
 returns : tie.Need-returns
 returns c = refl
 
-pub dummy-spec : {M : Type 1} → statement M
-dummy-spec = tie.close (tie.spec returns)
+pub dummy_spec : {M : Type 1} → statement M
+dummy_spec = tie.close (tie.spec returns)

@@ -6,8 +6,8 @@ use Rattle.confidential_hart.proofs.ConfidentialHart.from_vm_hart.Tie as tie
 returns : tie.Need-returns
 returns c = rw c.from-vm-hart-reset.ensures
 
-pub from-vm-hart-spec : {M : Type 1} → statement M
-from-vm-hart-spec =
+pub from_vm_hart_spec : {M : Type 1} → statement M
+from_vm_hart_spec =
     tie.close
     (tie.spec
     (λ c κs. search rules)

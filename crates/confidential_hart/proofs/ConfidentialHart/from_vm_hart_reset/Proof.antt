@@ -6,5 +6,5 @@ use Rattle.confidential_hart.proofs.ConfidentialHart.from_vm_hart_reset.Tie as t
 returns : tie.Need-returns
 returns c = refl
 
-pub from-vm-hart-reset-spec : {M : Type 1} → statement M
-from-vm-hart-reset-spec = tie.close (tie.spec returns)
+pub from_vm_hart_reset_spec : {M : Type 1} → statement M
+from_vm_hart_reset_spec = tie.close (tie.spec returns)

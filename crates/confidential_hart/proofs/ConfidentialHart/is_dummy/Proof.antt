@@ -6,5 +6,5 @@ use Rattle.confidential_hart.proofs.ConfidentialHart.is_dummy.Tie as tie
 returns : tie.Need-returns
 returns c = refl
 
-pub is-dummy-spec : {M : Type 1} → statement M
-is-dummy-spec = tie.close (tie.spec returns)
+pub is_dummy_spec : {M : Type 1} → statement M
+is_dummy_spec = tie.close (tie.spec returns)

@@ -8,6 +8,6 @@ returns : tie.Need-returns
 unfolding well_formed
 returns c = c.are-parts-well-formed.ensures
 
-pub is-well-formed-spec : {M : Type 1} → statement M
-is-well-formed-spec =
+pub is_well_formed_spec : {M : Type 1} → statement M
+is_well_formed_spec =
     tie.close (tie.spec (λ c. search rules) (λ c κs. search rules) returns)

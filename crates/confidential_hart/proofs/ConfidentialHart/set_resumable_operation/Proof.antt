@@ -6,5 +6,5 @@ use Rattle.confidential_hart.proofs.ConfidentialHart.set_resumable_operation.Tie
 returns : tie.Need-returns
 returns c = refl
 
-pub set-resumable-operation-spec : {M : Type 1} → statement M
-set-resumable-operation-spec = tie.close (tie.spec returns)
+pub set_resumable_operation_spec : {M : Type 1} → statement M
+set_resumable_operation_spec = tie.close (tie.spec returns)

@@ -6,5 +6,5 @@ use Rattle.confidential_hart.proofs.ConfidentialHart.take_resumable_operation.Ti
 returns : tie.Need-returns
 returns c = c.set-resumable-operation.ensures
 
-pub take-resumable-operation-spec : {M : Type 1} → statement M
-take-resumable-operation-spec = tie.close (tie.spec (λ c κs. search rules) returns)
+pub take_resumable_operation_spec : {M : Type 1} → statement M
+take_resumable_operation_spec = tie.close (tie.spec (λ c κs. search rules) returns)

@@ -6,5 +6,5 @@ use Rattle.confidential_hart.proofs.ConfidentialHart.transition_from_started_to_
 returns : tie.Need-returns
 returns c = c.change.ensures
 
-pub transition-from-started-to-stopped-spec : {M : Type 1} → statement M
-transition-from-started-to-stopped-spec = tie.close (tie.spec (λ c κs. search rules) returns)
+pub transition_from_started_to_stopped_spec : {M : Type 1} → statement M
+transition_from_started_to_stopped_spec = tie.close (tie.spec (λ c κs. search rules) returns)

@@ -20,8 +20,8 @@ returns-2 c =
     step_done 0 hart_already_running (omega arith) h _ is c.before.before.before.before.before.before.if1.false _ _
     (cc (step_id 0 hart_already_running (omega arith) h _ is, step_registers 0 hart_already_running (omega arith) h _ is))
 
-pub transition-from-stopped-to-started-spec : {M : Type 1} → statement M
-transition-from-stopped-to-started-spec =
+pub transition_from_stopped_to_started_spec : {M : Type 1} → statement M
+transition_from_stopped_to_started_spec =
     tie.close
     (tie.spec
     (λ c κs. search rules)

@@ -19,6 +19,6 @@ returns-2 c =
     step_done 3 hardware_hart_idle (omega arith) start.args.t1 _ is c.before.if1.false _ _
     (rw (step_registers 3 hardware_hart_idle (omega arith) start.args.t1 _ is))
 
-pub transition-from-suspended-to-started-spec : {M : Type 1} → statement M
-transition-from-suspended-to-started-spec =
+pub transition_from_suspended_to_started_spec : {M : Type 1} → statement M
+transition_from_suspended_to_started_spec =
     tie.close (tie.spec (λ c κs. search rules) returns (λ c. search rules) (λ c. search rules) returns-2)

@@ -6,5 +6,5 @@ use Rattle.confidential_hart.proofs.ConfidentialHart.transition_to_shutdown.Tie 
 returns : tie.Need-returns
 returns c = c.change.ensures
 
-pub transition-to-shutdown-spec : {M : Type 1} → statement M
-transition-to-shutdown-spec = tie.close (tie.spec (λ c κs. search rules) returns)
+pub transition_to_shutdown_spec : {M : Type 1} → statement M
+transition_to_shutdown_spec = tie.close (tie.spec (λ c κs. search rules) returns)

@@ -9,8 +9,8 @@ use Rattle.confidential_hart_remote_command.proofs.ConfidentialHartRemoteCommand
 returns : tie.Need-returns
 returns c = refl
 
-pub from-words-spec : {M : Type 1} → statement M
-from-words-spec =
+pub from_words_spec : {M : Type 1} → statement M
+from_words_spec =
     tie.close
     (tie.spec
     (λ c. search rules)

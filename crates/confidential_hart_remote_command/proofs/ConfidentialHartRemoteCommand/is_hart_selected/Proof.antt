@@ -44,6 +44,6 @@ returns-5 c =
     (simp
     (c.is-bit-enabled.ensures, ne_eqb _ _ a.if1.false, ne_eqb _ _ b.if2.false, le-leb _ _ d.if3.false, lt-ltb _ _ e.if4.false))
 
-pub is-hart-selected-spec : {M : Type 1} → statement M
-is-hart-selected-spec =
+pub is_hart_selected_spec : {M : Type 1} → statement M
+is_hart_selected_spec =
     tie.close (tie.spec returns returns-2 returns-3 returns-4 (λ c κs. search rules) returns-5)

@@ -13,5 +13,5 @@ returns c =
     let d = b.before.before in
     simp (d.only.ensures, b.only2.ensures, a.only3.ensures) (joined_form d.before.before.before.before.before.args.self)
 
-pub is-well-formed-spec : {M : Type 1} → statement M
-is-well-formed-spec = tie.close (tie.spec (λ c κs. search rules) (λ c κs. search rules) (λ c κs. search rules) returns)
+pub is_well_formed_spec : {M : Type 1} → statement M
+is_well_formed_spec = tie.close (tie.spec (λ c κs. search rules) (λ c κs. search rules) (λ c κs. search rules) returns)

@@ -12,8 +12,8 @@ use Rattle.confidential_hart_remote_command.proofs.ConfidentialHartRemoteCommand
 returns : tie.Need-returns
 returns c = sets_whole (to_words c.args.self) c.args.words.now c.requires
 
-pub to-words-spec : {M : Type 1} → statement M
-to-words-spec =
+pub to_words_spec : {M : Type 1} → statement M
+to_words_spec =
     tie.close
     (tie.spec
     (λ c. search rules)

@@ -6,5 +6,5 @@ use Rattle.confidential_vm_mmio_region.proofs.ConfidentialVmMmioRegion.contains.
 returns : tie.Need-returns
 returns c = refl
 
-pub contains-spec : {M : Type 1} → statement M
-contains-spec = tie.close (tie.spec returns)
+pub contains_spec : {M : Type 1} → statement M
+contains_spec = tie.close (tie.spec returns)

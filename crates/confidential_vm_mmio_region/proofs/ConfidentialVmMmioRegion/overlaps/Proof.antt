@@ -6,5 +6,5 @@ use Rattle.confidential_vm_mmio_region.proofs.ConfidentialVmMmioRegion.overlaps.
 returns : tie.Need-returns
 returns c = refl
 
-pub overlaps-spec : {M : Type 1} → statement M
-overlaps-spec = tie.close (tie.spec returns)
+pub overlaps_spec : {M : Type 1} → statement M
+overlaps_spec = tie.close (tie.spec returns)

@@ -8,5 +8,5 @@ returns : tie.Need-returns
 unfolding defined_answer
 returns c = rw c.before.refusal.ensures
 
-pub is-defined-spec : {M : Type 1} → statement M
-is-defined-spec = tie.close (tie.spec (λ c κs. search rules) returns)
+pub is_defined_spec : {M : Type 1} → statement M
+is_defined_spec = tie.close (tie.spec (λ c κs. search rules) returns)

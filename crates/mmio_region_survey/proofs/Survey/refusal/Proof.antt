@@ -15,5 +15,5 @@ returns-2 : tie.Need-returns-2
 unfolding refusal
 returns-2 c = no _ c.before.if1.false (ap (λ (n : NewRegion). n.number) c.new.ensures)
 
-pub refusal-spec : {M : Type 1} → statement M
-refusal-spec = tie.close (tie.spec returns (λ c κs. search rules) returns-2)
+pub refusal_spec : {M : Type 1} → statement M
+refusal_spec = tie.close (tie.spec returns (λ c κs. search rules) returns-2)

@@ -6,5 +6,5 @@ use Rattle.mmio_region_survey.proofs.Survey.with.Tie as tie
 returns : tie.Need-returns
 returns c = rw (c.before.before.before.overlaps.ensures, c.before.contains.ensures)
 
-pub with-spec : {M : Type 1} → statement M
-with-spec = tie.close (tie.spec (λ c κs. search rules) (λ c κs. search rules) returns)
+pub with_spec : {M : Type 1} → statement M
+with_spec = tie.close (tie.spec (λ c κs. search rules) (λ c κs. search rules) returns)

@@ -43,8 +43,8 @@ returns-8 c = in_case c.before.enum-told3.given.1 refl c.word2.ensures
 returns-9 : tie.Need-returns-9
 returns-9 c = in_case c.before.self6.given.1 refl (record { same = refl; few = search rules; there = refl })
 
-pub told-spec : {M : Type 1} → statement M
-told-spec =
+pub told_spec : {M : Type 1} → statement M
+told_spec =
     tie.close
     (tie.spec
     (λ c. search rules)

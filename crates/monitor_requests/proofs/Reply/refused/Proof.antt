@@ -6,5 +6,5 @@ use Rattle.monitor_requests.proofs.Reply.refused.Tie as tie
 returns : tie.Need-returns
 returns c = refl
 
-pub refused-spec : {M : Type 1} → statement M
-refused-spec = tie.close (tie.spec returns)
+pub refused_spec : {M : Type 1} → statement M
+refused_spec = tie.close (tie.spec returns)

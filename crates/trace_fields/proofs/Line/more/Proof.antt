@@ -73,8 +73,8 @@ returns-3 c =
     (ap (λ (d : ℕ). record { count = self.count; value = self.value * start.args.base + d; begun = true; bad = false })
     digit.wide.ensures))
 
-pub more-spec : {M : Type 1} → statement M
-more-spec =
+pub more_spec : {M : Type 1} → statement M
+more_spec =
     tie.close
     (tie.spec
     spoilt-requires
