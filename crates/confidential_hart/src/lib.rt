@@ -57,15 +57,15 @@ pub const NO_OPERATION: u64 = 0;
 pub const LAST_OPERATION: u64 = 5;
 
 // A confidential hart's number and a hardware hart's number are two kinds, so that they cannot be exchanged.
-#[derive(Drop)]
+#[derive(Clone, Copy)]
 pub struct ConfidentialHartId(pub u64);
 
-#[derive(Drop)]
+#[derive(Clone, Copy)]
 pub struct HardwareHartId(pub u64);
 
 // A confidential hart of the VM, or the dummy of a hardware hart: `vm` is 1 or, of a dummy, 0.
 #[repr(C)]
-#[derive(Drop)]
+#[derive(Clone, Copy)]
 pub struct ConfidentialHart {
     pub vm: u64,
     pub id: u64,
@@ -77,7 +77,7 @@ pub struct ConfidentialHart {
 }
 
 // What a transition gives: a number, and the record.
-#[derive(Drop)]
+#[derive(Clone, Copy)]
 pub struct Transition {
     pub number: u64,
     pub hart: ConfidentialHart,

@@ -31,7 +31,7 @@ pub const XLEN: u64 = 64;
 pub const ALL_HARTS: u64 = 0xffff_ffff_ffff_ffff;
 
 // A command that is to be done by confidential harts: what to do, for which harts, and on what.
-#[derive(Drop)]
+#[derive(Clone, Copy)]
 pub struct ConfidentialHartRemoteCommand {
     pub kind: u64,
     pub mask: u64,

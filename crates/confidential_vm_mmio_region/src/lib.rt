@@ -12,14 +12,14 @@ pub const MAX_END: u64 = 0xffff_ffff_ffff_ffff;
 
 // A range of guest physical addresses: its base and one past its end.
 #[repr(C)]
-#[derive(Drop)]
+#[derive(Clone, Copy)]
 pub struct ConfidentialVmMmioRegion {
     pub base: u64,
     pub end: u64,
 }
 
 // A region with number 0, or the number that refuses it and an empty region.
-#[derive(Drop)]
+#[derive(Clone, Copy)]
 pub struct NewRegion {
     pub number: u64,
     pub region: ConfidentialVmMmioRegion,

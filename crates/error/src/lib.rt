@@ -53,7 +53,7 @@ pub const UNKNOWN_KIND: u64 = 19;
 pub const BAD_LINE: u64 = 20;
 
 // Why a request was refused: the Rust's errors, and what it asserts or leaves to others.
-#[derive(Drop)]
+#[derive(Clone, Copy)]
 pub enum Error {
     InvalidHartId,
     HartAlreadyRunning,

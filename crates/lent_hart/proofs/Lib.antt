@@ -1,4 +1,2 @@
 -- What belongs to no one function of `lent_hart`, and what other crates use.
-pub mod Numbers
-pub mod Lent
 pub mod RefusalLaws

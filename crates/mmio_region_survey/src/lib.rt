@@ -25,7 +25,7 @@ use mmio_regions::MAX_NUMBER_OF_MMIO_REGIONS;
 
 // The number that adding or removing gives, and how many regions stand then.
 #[repr(C)]
-#[derive(Drop)]
+#[derive(Clone, Copy)]
 pub struct Changed {
     pub number: u64,
     pub count: u64,
@@ -33,14 +33,14 @@ pub struct Changed {
 
 // The number that asking for a region gives, and whether one contains it. A refusal says no.
 #[repr(C)]
-#[derive(Drop)]
+#[derive(Clone, Copy)]
 pub struct Defined {
     pub number: u64,
     pub defined: bool,
 }
 
 // What one look through a run shows: whether the run is sound, and whether a region that stands overlaps the query or contains it.
-#[derive(Drop)]
+#[derive(Clone, Copy)]
 pub struct Survey {
     pub sound: bool,
     pub overlapping: bool,
@@ -48,7 +48,7 @@ pub struct Survey {
 }
 
 // What is written to the next free place, and which place is next then.
-#[derive(Drop)]
+#[derive(Clone, Copy)]
 pub struct Kept {
     pub region: ConfidentialVmMmioRegion,
     pub next: u64,

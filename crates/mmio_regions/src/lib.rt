@@ -36,7 +36,7 @@ pub const REGION_WORDS: usize = 2;
 pub const TABLE_WORDS: usize = MAX_NUMBER_OF_MMIO_REGIONS * REGION_WORDS;
 
 // The number that adding a region gives, and how many regions stand then.
-#[derive(Drop)]
+#[derive(Clone, Copy)]
 pub struct Added {
     pub number: u64,
     pub count: u64,

@@ -31,7 +31,7 @@ const EFFECTS_WORDS: usize = MAX_NUMBER_OF_COMMANDS * EFFECT_WORDS;
 // A trace so far: the line that is being read, whether a setup was accepted, how many bytes of the output wait to be written, whether a write
 // failed, and how many blocks may still be read: none once the input ended or a write failed. A loop has to end, so this counts down, from a
 // number that no run uses up.
-#[derive(Drop)]
+#[derive(Clone, Copy)]
 struct Trace {
     line: Line,
     ready: bool,

@@ -34,7 +34,7 @@ pub const MAX_NUMBER_OF_HARTS_PER_VM: u64 = 1024;
 pub const MAX_NUMBER_OF_HARDWARE_HARTS: u64 = 64;
 
 // What setup takes: how many harts and hardware harts, and the boot hart with its registers.
-#[derive(Drop)]
+#[derive(Clone, Copy)]
 pub struct Setup {
     pub harts: u64,
     pub hardware: u64,
@@ -46,7 +46,7 @@ pub struct Setup {
 }
 
 // A request on tables that stand, by the name of its line in a trace.
-#[derive(Drop)]
+#[derive(Clone, Copy)]
 pub enum Request {
     Steal(ConfidentialHartId, HardwareHartId),
     Return(HardwareHartId),
@@ -77,7 +77,7 @@ pub enum Request {
 }
 
 // What the monitor answers.
-#[derive(Drop)]
+#[derive(Clone, Copy)]
 pub enum Answer {
     Refused(Error),
     Done,
@@ -95,7 +95,7 @@ pub enum Answer {
 }
 
 // What stands between the number of an answer and its details.
-#[derive(Drop)]
+#[derive(Clone, Copy)]
 pub enum Word {
     NoWord,
     // the three that say what a hart goes on with
@@ -108,7 +108,7 @@ pub enum Word {
 pub const MOST_DETAILS: usize = 3;
 
 // An answer for whoever writes it down: its number, its word, and its details, which are the first `count` of the numbers.
-#[derive(Drop)]
+#[derive(Clone, Copy)]
 pub struct Told {
     pub number: u64,
     pub word: Word,
@@ -187,7 +187,7 @@ impl Answer {
 
 // What a request that does commands gives: its answer, and how many effect records it wrote. A broadcast that is refused because a queue is full
 // may have written one.
-#[derive(Drop)]
+#[derive(Clone, Copy)]
 pub struct Reply {
     pub answer: Answer,
     pub did: u64,

@@ -12,7 +12,7 @@ use trace_answers::MOST_PRINTED;
 use trace_requests::{Parsed, TraceLine};
 
 // What a turn gives: whether the trace is ready, which it is from the first accepted setup on, and how many bytes were printed.
-#[derive(Drop)]
+#[derive(Clone, Copy)]
 pub struct Turn {
     pub ready: bool,
     pub length: usize,

@@ -9,7 +9,7 @@ use trace_text::TAB;
 
 // A line that is being read: how many fields stand before this one, the value of this one so far, whether any of it was read, and whether the
 // line is in no form.
-#[derive(Drop)]
+#[derive(Clone, Copy)]
 pub struct Line {
     pub count: usize,
     pub value: u64,

@@ -54,14 +54,14 @@ pub const HOME: u64 = 8_15_13_05;
 pub const FIELDS: usize = 8;
 
 // A line of a trace is a setup or a request.
-#[derive(Drop)]
+#[derive(Clone, Copy)]
 pub enum TraceLine {
     SetUp(Setup),
     Ask(Request),
 }
 
 // What a text says: a line of a trace, or nothing that is one.
-#[derive(Drop)]
+#[derive(Clone, Copy)]
 pub enum Parsed {
     Read(TraceLine),
     BadLine,

@@ -1,0 +1,7 @@
+-- `hart_tables::id` meets its contract: a word of the row is the part of its record. Assumes nothing.
+use mathlib.Core.Path.{◌∙◌}
+use Rattle.hart_rows.proofs.HartRowLaws.{id_word_lem}
+use Rattle.hart_tables.proofs.id.Goals as goal
+
+pub returns : goal.returns
+returns c = c.word.ensures ∙ id_word_lem _ _

@@ -1,0 +1,22 @@
+-- `mmio_regions::find_overlapping` meets its contract: no place that was passed overlaps the query. Assumes nothing.
+use mathlib.Core.Bool.{false}
+use borrow.Author.Rules.{rules}
+use Rattle.confidential_vm_mmio_region.specs.Region.{overlaps}
+use Rattle.mmio_regions.proofs.TableLaws.{none_yet, none_next, first_here, first_none}
+use Rattle.mmio_regions.proofs.find_overlapping.Goals as goal
+
+pub loop-i-init : goal.loop-i-init
+loop-i-init c = (search rules, none_yet _ _)
+
+pub returns-then-overlaps : goal.returns-then-overlaps
+returns-then-overlaps c =
+    let turn = c.loop-i in
+    first_here _ _ turn.i turn.invariant.1 c.region.ensures c.overlaps.ensures _ (search rules) c.if-overlaps.true
+
+pub loop-i-preserved : goal.loop-i-preserved
+loop-i-preserved c =
+    let turn = c.loop-i in
+    (search rules, none_next _ _ turn.i turn.invariant.1 c.region.ensures c.overlaps.ensures c.if-overlaps.false)
+
+pub returns : goal.returns
+returns c = first_none _ _ c.loop-i.i _ c.loop-i.invariant.1 (search rules) (search rules)
