@@ -9,8 +9,7 @@
 ghost use Rattle.std.specs.Prelude.{◌≡◌, [], true};
 ghost use Rattle.confidential_hart.specs.Hart.{is_operation};
 ghost use Rattle.monitor_requests.specs.declared.Request.TheVariants.{Await, Resume};
-ghost use Rattle.monitor_requests.specs.Tables.{sound, Sized};
-ghost use Rattle.monitor_requests.specs.LentTables.{lent, before, after};
+ghost use Rattle.monitor_requests.specs.Tables.{sound, Sized, tables};
 ghost use Rattle.monitor_requests.specs.Requests.{answering, performed, replied};
 
 use confidential_hart::{HardwareHartId, LAST_OPERATION, NO_OPERATION};
@@ -36,9 +35,9 @@ fn await_operation(
     queues: &[u64],
     regions: &[u64],
 ) -> Answer
-    requires { (Sized (lent head home hardware queues regions)) × (sound (lent head home hardware queues regions) ≡ true) }
-    ensures { answering result (after head home hardware queues regions) []
-        ≡ performed (Await on kind x y) (before head home hardware queues regions) [] }
+    requires { let t = tables head.now home.now hardware.old queues.now regions.now in Sized t × (sound t ≡ true) }
+    ensures { answering result (tables head.now home.now hardware.new queues.now regions.now) []
+        ≡ performed (Await on kind x y) (tables head.now home.now hardware.old queues.now regions.now) [] }
 {
     let k = on.0 as usize;
     let unknown = !is_operation(kind);
@@ -73,8 +72,8 @@ pub fn set_resumable_operation(
     queues: &[u64],
     regions: &[u64],
 ) -> Answer
-    ensures { answering result (after head home hardware queues regions) []
-        ≡ performed (Await on kind x y) (before head home hardware queues regions) [] }
+    ensures { answering result (tables head.now home.now hardware.new queues.now regions.now) []
+        ≡ performed (Await on kind x y) (tables head.now home.now hardware.old queues.now regions.now) [] }
 {
     let unsound = !sound_tables::are_tables_sound(head, home, hardware, queues, regions);
     if unsound {
@@ -93,9 +92,9 @@ fn resume(
     regions: &[u64],
     effects: &mut [u64],
 ) -> Reply
-    requires { (Sized (lent head home hardware queues regions)) × (sound (lent head home hardware queues regions) ≡ true) }
-    ensures { replied result (after head home hardware queues regions) effects.new
-        ≡ performed (Resume on) (before head home hardware queues regions) effects.old }
+    requires { let t = tables head.now home.now hardware.old queues.old regions.now in Sized t × (sound t ≡ true) }
+    ensures { replied result (tables head.now home.now hardware.new queues.new regions.now) effects.new
+        ≡ performed (Resume on) (tables head.now home.now hardware.old queues.old regions.now) effects.old }
 {
     let done = confidential_flow_remote_commands::process(
         on, head, home, hardware, queues, regions, effects,
@@ -124,8 +123,8 @@ pub fn resume_confidential_hart_execution(
     regions: &[u64],
     effects: &mut [u64],
 ) -> Reply
-    ensures { replied result (after head home hardware queues regions) effects.new
-        ≡ performed (Resume on) (before head home hardware queues regions) effects.old }
+    ensures { replied result (tables head.now home.now hardware.new queues.new regions.now) effects.new
+        ≡ performed (Resume on) (tables head.now home.now hardware.old queues.old regions.now) effects.old }
 {
     let unsound = !sound_tables::are_tables_sound(head, home, hardware, queues, regions);
     if unsound {

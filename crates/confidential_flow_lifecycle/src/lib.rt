@@ -7,8 +7,7 @@
 
 ghost use Rattle.std.specs.Prelude.{◌≡◌, [], true};
 ghost use Rattle.monitor_requests.specs.declared.Request.TheVariants.{Suspend, Stop, Wake, Off};
-ghost use Rattle.monitor_requests.specs.Tables.{sound, Sized};
-ghost use Rattle.monitor_requests.specs.LentTables.{lent, before, after};
+ghost use Rattle.monitor_requests.specs.Tables.{sound, Sized, tables};
 ghost use Rattle.monitor_requests.specs.Requests.{answering, performed};
 
 use confidential_hart::HardwareHartId;
@@ -24,9 +23,9 @@ fn suspend(
     queues: &[u64],
     regions: &[u64],
 ) -> Answer
-    requires { (Sized (lent head home hardware queues regions)) × (sound (lent head home hardware queues regions) ≡ true) }
-    ensures { answering result (after head home hardware queues regions) []
-        ≡ performed (Suspend on) (before head home hardware queues regions) [] }
+    requires { let t = tables head.now home.now hardware.old queues.now regions.now in Sized t × (sound t ≡ true) }
+    ensures { answering result (tables head.now home.now hardware.new queues.now regions.now) []
+        ≡ performed (Suspend on) (tables head.now home.now hardware.old queues.now regions.now) [] }
 {
     let k = on.0 as usize;
     if head[HARDWARE_WORD] <= on.0 {
@@ -53,8 +52,8 @@ pub fn suspend_confidential_hart(
     queues: &[u64],
     regions: &[u64],
 ) -> Answer
-    ensures { answering result (after head home hardware queues regions) []
-        ≡ performed (Suspend on) (before head home hardware queues regions) [] }
+    ensures { answering result (tables head.now home.now hardware.new queues.now regions.now) []
+        ≡ performed (Suspend on) (tables head.now home.now hardware.old queues.now regions.now) [] }
 {
     let unsound = !sound_tables::are_tables_sound(head, home, hardware, queues, regions);
     if unsound {
@@ -72,9 +71,9 @@ fn stop(
     queues: &[u64],
     regions: &[u64],
 ) -> Answer
-    requires { (Sized (lent head home hardware queues regions)) × (sound (lent head home hardware queues regions) ≡ true) }
-    ensures { answering result (after head home hardware queues regions) []
-        ≡ performed (Stop on) (before head home hardware queues regions) [] }
+    requires { let t = tables head.now home.now hardware.old queues.now regions.now in Sized t × (sound t ≡ true) }
+    ensures { answering result (tables head.now home.now hardware.new queues.now regions.now) []
+        ≡ performed (Stop on) (tables head.now home.now hardware.old queues.now regions.now) [] }
 {
     let k = on.0 as usize;
     if head[HARDWARE_WORD] <= on.0 {
@@ -101,8 +100,8 @@ pub fn stop_confidential_hart(
     queues: &[u64],
     regions: &[u64],
 ) -> Answer
-    ensures { answering result (after head home hardware queues regions) []
-        ≡ performed (Stop on) (before head home hardware queues regions) [] }
+    ensures { answering result (tables head.now home.now hardware.new queues.now regions.now) []
+        ≡ performed (Stop on) (tables head.now home.now hardware.old queues.now regions.now) [] }
 {
     let unsound = !sound_tables::are_tables_sound(head, home, hardware, queues, regions);
     if unsound {
@@ -122,9 +121,9 @@ fn wake(
     queues: &[u64],
     regions: &[u64],
 ) -> Answer
-    requires { (Sized (lent head home hardware queues regions)) × (sound (lent head home hardware queues regions) ≡ true) }
-    ensures { answering result (after head home hardware queues regions) []
-        ≡ performed (Wake on address opaque) (before head home hardware queues regions) [] }
+    requires { let t = tables head.now home.now hardware.old queues.now regions.now in Sized t × (sound t ≡ true) }
+    ensures { answering result (tables head.now home.now hardware.new queues.now regions.now) []
+        ≡ performed (Wake on address opaque) (tables head.now home.now hardware.old queues.now regions.now) [] }
 {
     let k = on.0 as usize;
     if head[HARDWARE_WORD] <= on.0 {
@@ -153,8 +152,8 @@ pub fn resume_confidential_hart(
     queues: &[u64],
     regions: &[u64],
 ) -> Answer
-    ensures { answering result (after head home hardware queues regions) []
-        ≡ performed (Wake on address opaque) (before head home hardware queues regions) [] }
+    ensures { answering result (tables head.now home.now hardware.new queues.now regions.now) []
+        ≡ performed (Wake on address opaque) (tables head.now home.now hardware.old queues.now regions.now) [] }
 {
     let unsound = !sound_tables::are_tables_sound(head, home, hardware, queues, regions);
     if unsound {
@@ -172,9 +171,9 @@ fn off(
     queues: &[u64],
     regions: &[u64],
 ) -> Answer
-    requires { (Sized (lent head home hardware queues regions)) × (sound (lent head home hardware queues regions) ≡ true) }
-    ensures { answering result (after head home hardware queues regions) []
-        ≡ performed (Off on) (before head home hardware queues regions) [] }
+    requires { let t = tables head.now home.now hardware.old queues.now regions.now in Sized t × (sound t ≡ true) }
+    ensures { answering result (tables head.now home.now hardware.new queues.now regions.now) []
+        ≡ performed (Off on) (tables head.now home.now hardware.old queues.now regions.now) [] }
 {
     let k = on.0 as usize;
     if head[HARDWARE_WORD] <= on.0 {
@@ -198,8 +197,8 @@ pub fn shutdown_confidential_hart(
     queues: &[u64],
     regions: &[u64],
 ) -> Answer
-    ensures { answering result (after head home hardware queues regions) []
-        ≡ performed (Off on) (before head home hardware queues regions) [] }
+    ensures { answering result (tables head.now home.now hardware.new queues.now regions.now) []
+        ≡ performed (Off on) (tables head.now home.now hardware.old queues.now regions.now) [] }
 {
     let unsound = !sound_tables::are_tables_sound(head, home, hardware, queues, regions);
     if unsound {

@@ -6,8 +6,7 @@
 #![tactic(auto)]
 
 ghost use Rattle.std.specs.Prelude.{◌≡◌, true};
-ghost use Rattle.monitor_requests.specs.Tables.{sound, Sized};
-ghost use Rattle.monitor_requests.specs.LentTables.{lent, before, after};
+ghost use Rattle.monitor_requests.specs.Tables.{sound, Sized, tables};
 ghost use Rattle.monitor_requests.specs.declared.Request.TheVariants.{Broadcast, Process};
 ghost use Rattle.monitor_requests.specs.Requests.{replied, performed};
 
@@ -29,9 +28,9 @@ fn broadcast(
     regions: &[u64],
     effects: &mut [u64],
 ) -> Reply
-    requires { (Sized (lent head home hardware queues regions)) × (sound (lent head home hardware queues regions) ≡ true) }
-    ensures { replied result (after head home hardware queues regions) effects.new
-        ≡ performed (Broadcast on c) (before head home hardware queues regions) effects.old }
+    requires { let t = tables head.now home.now hardware.old queues.old regions.now in Sized t × (sound t ≡ true) }
+    ensures { replied result (tables head.now home.now hardware.new queues.new regions.now) effects.new
+        ≡ performed (Broadcast on c) (tables head.now home.now hardware.old queues.old regions.now) effects.old }
 {
     let k = on.0 as usize;
     if effects.len() < EFFECT_WORDS {
@@ -68,8 +67,8 @@ pub fn broadcast_remote_command(
     regions: &[u64],
     effects: &mut [u64],
 ) -> Reply
-    ensures { replied result (after head home hardware queues regions) effects.new
-        ≡ performed (Broadcast on c) (before head home hardware queues regions) effects.old }
+    ensures { replied result (tables head.now home.now hardware.new queues.new regions.now) effects.new
+        ≡ performed (Broadcast on c) (tables head.now home.now hardware.old queues.old regions.now) effects.old }
 {
     let unsound = !sound_tables::are_tables_sound(head, home, hardware, queues, regions);
     if unsound {
@@ -88,9 +87,9 @@ pub fn process(
     regions: &[u64],
     effects: &mut [u64],
 ) -> Reply
-    requires { (Sized (lent head home hardware queues regions)) × (sound (lent head home hardware queues regions) ≡ true) }
-    ensures { replied result (after head home hardware queues regions) effects.new
-        ≡ performed (Process on) (before head home hardware queues regions) effects.old }
+    requires { let t = tables head.now home.now hardware.old queues.old regions.now in Sized t × (sound t ≡ true) }
+    ensures { replied result (tables head.now home.now hardware.new queues.new regions.now) effects.new
+        ≡ performed (Process on) (tables head.now home.now hardware.old queues.old regions.now) effects.old }
 {
     let k = on.0 as usize;
     if effects.len() < MAX_NUMBER_OF_COMMANDS * EFFECT_WORDS {
@@ -121,8 +120,8 @@ pub fn process_confidential_hart_remote_commands(
     regions: &[u64],
     effects: &mut [u64],
 ) -> Reply
-    ensures { replied result (after head home hardware queues regions) effects.new
-        ≡ performed (Process on) (before head home hardware queues regions) effects.old }
+    ensures { replied result (tables head.now home.now hardware.new queues.new regions.now) effects.new
+        ≡ performed (Process on) (tables head.now home.now hardware.old queues.old regions.now) effects.old }
 {
     let unsound = !sound_tables::are_tables_sound(head, home, hardware, queues, regions);
     if unsound {

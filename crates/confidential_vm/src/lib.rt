@@ -7,8 +7,7 @@
 
 ghost use Rattle.std.specs.Prelude.{◌≡◌, [], true};
 ghost use Rattle.monitor_requests.specs.declared.Request.TheVariants.{Steal, Return, Allow};
-ghost use Rattle.monitor_requests.specs.Tables.{sound, Sized};
-ghost use Rattle.monitor_requests.specs.LentTables.{lent, before, after};
+ghost use Rattle.monitor_requests.specs.Tables.{sound, Sized, tables};
 ghost use Rattle.monitor_requests.specs.Requests.{answering, performed};
 
 use confidential_hart::{ConfidentialHartId, HardwareHartId};
@@ -25,9 +24,9 @@ fn steal(
     queues: &[u64],
     regions: &[u64],
 ) -> Answer
-    requires { (Sized (lent head home hardware queues regions)) × (sound (lent head home hardware queues regions) ≡ true) }
-    ensures { answering result (after head home hardware queues regions) []
-        ≡ performed (Steal hart on) (before head home hardware queues regions) [] }
+    requires { let t = tables head.now home.old hardware.old queues.now regions.now in Sized t × (sound t ≡ true) }
+    ensures { answering result (tables head.now home.new hardware.new queues.now regions.now) []
+        ≡ performed (Steal hart on) (tables head.now home.old hardware.old queues.now regions.now) [] }
 {
     let h = hart.0 as usize;
     let k = on.0 as usize;
@@ -64,8 +63,8 @@ pub fn steal_confidential_hart(
     queues: &[u64],
     regions: &[u64],
 ) -> Answer
-    ensures { answering result (after head home hardware queues regions) []
-        ≡ performed (Steal hart on) (before head home hardware queues regions) [] }
+    ensures { answering result (tables head.now home.new hardware.new queues.now regions.now) []
+        ≡ performed (Steal hart on) (tables head.now home.old hardware.old queues.now regions.now) [] }
 {
     let unsound = !sound_tables::are_tables_sound(head, home, hardware, queues, regions);
     if unsound {
@@ -83,9 +82,9 @@ fn give_back(
     queues: &[u64],
     regions: &[u64],
 ) -> Answer
-    requires { (Sized (lent head home hardware queues regions)) × (sound (lent head home hardware queues regions) ≡ true) }
-    ensures { answering result (after head home hardware queues regions) []
-        ≡ performed (Return on) (before head home hardware queues regions) [] }
+    requires { let t = tables head.now home.old hardware.old queues.now regions.now in Sized t × (sound t ≡ true) }
+    ensures { answering result (tables head.now home.new hardware.new queues.now regions.now) []
+        ≡ performed (Return on) (tables head.now home.old hardware.old queues.now regions.now) [] }
 {
     let k = on.0 as usize;
     if head[HARDWARE_WORD] <= on.0 {
@@ -109,8 +108,8 @@ pub fn return_confidential_hart(
     queues: &[u64],
     regions: &[u64],
 ) -> Answer
-    ensures { answering result (after head home hardware queues regions) []
-        ≡ performed (Return on) (before head home hardware queues regions) [] }
+    ensures { answering result (tables head.now home.new hardware.new queues.now regions.now) []
+        ≡ performed (Return on) (tables head.now home.old hardware.old queues.now regions.now) [] }
 {
     let unsound = !sound_tables::are_tables_sound(head, home, hardware, queues, regions);
     if unsound {
@@ -128,9 +127,9 @@ fn allow(
     queues: &[u64],
     regions: &[u64],
 ) -> Answer
-    requires { (Sized (lent head home hardware queues regions)) × (sound (lent head home hardware queues regions) ≡ true) }
-    ensures { answering result (after head home hardware queues regions) []
-        ≡ performed (Allow bits) (before head home hardware queues regions) [] }
+    requires { let t = tables head.old home.now hardware.now queues.now regions.now in Sized t × (sound t ≡ true) }
+    ensures { answering result (tables head.new home.now hardware.now queues.now regions.now) []
+        ≡ performed (Allow bits) (tables head.old home.now hardware.now queues.now regions.now) [] }
 {
     head[ALLOWED_WORD] |= bits;
     Answer::Done
@@ -145,8 +144,8 @@ pub fn allow_external_interrupt(
     queues: &[u64],
     regions: &[u64],
 ) -> Answer
-    ensures { answering result (after head home hardware queues regions) []
-        ≡ performed (Allow bits) (before head home hardware queues regions) [] }
+    ensures { answering result (tables head.new home.now hardware.now queues.now regions.now) []
+        ≡ performed (Allow bits) (tables head.old home.now hardware.now queues.now regions.now) [] }
 {
     let unsound = !sound_tables::are_tables_sound(head, home, hardware, queues, regions);
     if unsound {

@@ -10,8 +10,7 @@ ghost use Rattle.table_rows.specs.Choice.{every};
 ghost use Rattle.confidential_hart.specs.Hart.{is_dummy};
 ghost use Rattle.hart_rows.specs.HartRows.{hart_words, hart_at};
 ghost use Rattle.monitor_requests.specs.declared.Request.TheVariants.{Start, Status, Home};
-ghost use Rattle.monitor_requests.specs.Tables.{sound, Sized};
-ghost use Rattle.monitor_requests.specs.LentTables.{lent, before, after};
+ghost use Rattle.monitor_requests.specs.Tables.{sound, Sized, tables};
 ghost use Rattle.monitor_requests.specs.Requests.{answering, performed};
 
 use confidential_hart::ConfidentialHartId;
@@ -29,9 +28,9 @@ fn start(
     queues: &[u64],
     regions: &[u64],
 ) -> Answer
-    requires { (Sized (lent head home hardware queues regions)) × (sound (lent head home hardware queues regions) ≡ true) }
-    ensures { answering result (after head home hardware queues regions) []
-        ≡ performed (Start hart address opaque) (before head home hardware queues regions) [] }
+    requires { let t = tables head.now home.old hardware.now queues.now regions.now in Sized t × (sound t ≡ true) }
+    ensures { answering result (tables head.now home.new hardware.now queues.now regions.now) []
+        ≡ performed (Start hart address opaque) (tables head.now home.old hardware.now queues.now regions.now) [] }
 {
     let h = hart.0 as usize;
     if head[HARTS_WORD] <= hart.0 {
@@ -60,8 +59,8 @@ pub fn start_confidential_hart(
     queues: &[u64],
     regions: &[u64],
 ) -> Answer
-    ensures { answering result (after head home hardware queues regions) []
-        ≡ performed (Start hart address opaque) (before head home hardware queues regions) [] }
+    ensures { answering result (tables head.now home.new hardware.now queues.now regions.now) []
+        ≡ performed (Start hart address opaque) (tables head.now home.old hardware.now queues.now regions.now) [] }
 {
     let unsound = !sound_tables::are_tables_sound(head, home, hardware, queues, regions);
     if unsound {
@@ -79,9 +78,9 @@ fn state(
     queues: &[u64],
     regions: &[u64],
 ) -> Answer
-    requires { (Sized (lent head home hardware queues regions)) × (sound (lent head home hardware queues regions) ≡ true) }
-    ensures { answering result (after head home hardware queues regions) []
-        ≡ performed (Status hart) (before head home hardware queues regions) [] }
+    requires { let t = tables head.now home.now hardware.now queues.now regions.now in Sized t × (sound t ≡ true) }
+    ensures { answering result (tables head.now home.now hardware.now queues.now regions.now) []
+        ≡ performed (Status hart) (tables head.now home.now hardware.now queues.now regions.now) [] }
 {
     if head[HARTS_WORD] <= hart.0 {
         return Answer::Refused(Error::InvalidHartId);
@@ -98,8 +97,8 @@ pub fn confidential_hart_lifecycle_state(
     queues: &[u64],
     regions: &[u64],
 ) -> Answer
-    ensures { answering result (after head home hardware queues regions) []
-        ≡ performed (Status hart) (before head home hardware queues regions) [] }
+    ensures { answering result (tables head.now home.now hardware.now queues.now regions.now) []
+        ≡ performed (Status hart) (tables head.now home.now hardware.now queues.now regions.now) [] }
 {
     let unsound = !sound_tables::are_tables_sound(head, home, hardware, queues, regions);
     if unsound {
@@ -131,9 +130,9 @@ fn executing(
     queues: &[u64],
     regions: &[u64],
 ) -> Answer
-    requires { (Sized (lent head home hardware queues regions)) × (sound (lent head home hardware queues regions) ≡ true) }
-    ensures { answering result (after head home hardware queues regions) []
-        ≡ performed Home (before head home hardware queues regions) [] }
+    requires { let t = tables head.now home.now hardware.now queues.now regions.now in Sized t × (sound t ≡ true) }
+    ensures { answering result (tables head.now home.now hardware.now queues.now regions.now) []
+        ≡ performed Home (tables head.now home.now hardware.now queues.now regions.now) [] }
 {
     Answer::Flag(are_all_home(home, head[HARTS_WORD] as usize))
 }
@@ -146,8 +145,8 @@ pub fn is_vm_executing(
     queues: &[u64],
     regions: &[u64],
 ) -> Answer
-    ensures { answering result (after head home hardware queues regions) []
-        ≡ performed Home (before head home hardware queues regions) [] }
+    ensures { answering result (tables head.now home.now hardware.now queues.now regions.now) []
+        ≡ performed Home (tables head.now home.now hardware.now queues.now regions.now) [] }
 {
     let unsound = !sound_tables::are_tables_sound(head, home, hardware, queues, regions);
     if unsound {

@@ -7,8 +7,7 @@
 
 ghost use Rattle.std.specs.Prelude.{◌≡◌, [], true};
 ghost use Rattle.monitor_requests.specs.declared.Request.TheVariants.{Add, Remove, Defined};
-ghost use Rattle.monitor_requests.specs.Tables.{sound, Sized};
-ghost use Rattle.monitor_requests.specs.LentTables.{lent, before, after};
+ghost use Rattle.monitor_requests.specs.Tables.{sound, Sized, tables};
 ghost use Rattle.monitor_requests.specs.Requests.{answering, performed};
 
 use confidential_vm_mmio_region::ConfidentialVmMmioRegion;
@@ -25,9 +24,9 @@ fn add(
     queues: &[u64],
     regions: &mut [u64],
 ) -> Answer
-    requires { Sized (lent head home hardware queues regions) × (sound (lent head home hardware queues regions) ≡ true) }
-    ensures { answering result (after head home hardware queues regions) []
-        ≡ performed (Add base size) (before head home hardware queues regions) [] }
+    requires { let t = tables head.old home.now hardware.now queues.now regions.old in Sized t × (sound t ≡ true) }
+    ensures { answering result (tables head.new home.now hardware.now queues.now regions.new) []
+        ≡ performed (Add base size) (tables head.old home.now hardware.now queues.now regions.old) [] }
 {
     let new = ConfidentialVmMmioRegion::new(base, size);
     if new.number != error::DONE {
@@ -54,8 +53,8 @@ pub fn add_mmio_region(
     queues: &[u64],
     regions: &mut [u64],
 ) -> Answer
-    ensures { answering result (after head home hardware queues regions) []
-        ≡ performed (Add base size) (before head home hardware queues regions) [] }
+    ensures { answering result (tables head.new home.now hardware.now queues.now regions.new) []
+        ≡ performed (Add base size) (tables head.old home.now hardware.now queues.now regions.old) [] }
 {
     let unsound = !sound_tables::are_tables_sound(head, home, hardware, queues, regions);
     if unsound {
@@ -74,9 +73,9 @@ fn remove(
     queues: &[u64],
     regions: &mut [u64],
 ) -> Answer
-    requires { Sized (lent head home hardware queues regions) × (sound (lent head home hardware queues regions) ≡ true) }
-    ensures { answering result (after head home hardware queues regions) []
-        ≡ performed (Remove base size) (before head home hardware queues regions) [] }
+    requires { let t = tables head.old home.now hardware.now queues.now regions.old in Sized t × (sound t ≡ true) }
+    ensures { answering result (tables head.new home.now hardware.now queues.now regions.new) []
+        ≡ performed (Remove base size) (tables head.old home.now hardware.now queues.now regions.old) [] }
 {
     let new = ConfidentialVmMmioRegion::new(base, size);
     if new.number != error::DONE {
@@ -96,8 +95,8 @@ pub fn remove_mmio_region(
     queues: &[u64],
     regions: &mut [u64],
 ) -> Answer
-    ensures { answering result (after head home hardware queues regions) []
-        ≡ performed (Remove base size) (before head home hardware queues regions) [] }
+    ensures { answering result (tables head.new home.now hardware.now queues.now regions.new) []
+        ≡ performed (Remove base size) (tables head.old home.now hardware.now queues.now regions.old) [] }
 {
     let unsound = !sound_tables::are_tables_sound(head, home, hardware, queues, regions);
     if unsound {
@@ -116,9 +115,9 @@ fn is_defined(
     queues: &[u64],
     regions: &[u64],
 ) -> Answer
-    requires { Sized (lent head home hardware queues regions) × (sound (lent head home hardware queues regions) ≡ true) }
-    ensures { answering result (after head home hardware queues regions) []
-        ≡ performed (Defined base size) (before head home hardware queues regions) [] }
+    requires { let t = tables head.now home.now hardware.now queues.now regions.now in Sized t × (sound t ≡ true) }
+    ensures { answering result (tables head.now home.now hardware.now queues.now regions.now) []
+        ≡ performed (Defined base size) (tables head.now home.now hardware.now queues.now regions.now) [] }
 {
     let new = ConfidentialVmMmioRegion::new(base, size);
     if new.number != error::DONE {
@@ -138,8 +137,8 @@ pub fn is_mmio_region_defined(
     queues: &[u64],
     regions: &[u64],
 ) -> Answer
-    ensures { answering result (after head home hardware queues regions) []
-        ≡ performed (Defined base size) (before head home hardware queues regions) [] }
+    ensures { answering result (tables head.now home.now hardware.now queues.now regions.now) []
+        ≡ performed (Defined base size) (tables head.now home.now hardware.now queues.now regions.now) [] }
 {
     let unsound = !sound_tables::are_tables_sound(head, home, hardware, queues, regions);
     if unsound {

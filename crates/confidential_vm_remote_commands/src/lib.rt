@@ -8,8 +8,7 @@
 ghost use Rattle.std.specs.Prelude.{◌≡◌, [], true, ◌+◌, ◌*◌, ◌≤◌, length};
 ghost use Rattle.remote_commands.specs.Queue.{queue_words};
 ghost use Rattle.hart_rows.specs.HartRows.{hart_words};
-ghost use Rattle.monitor_requests.specs.Tables.{Sized, sound};
-ghost use Rattle.monitor_requests.specs.LentTables.{lent, before, after};
+ghost use Rattle.monitor_requests.specs.Tables.{Sized, sound, tables};
 ghost use Rattle.monitor_requests.specs.declared.Request.TheVariants.{Send};
 ghost use Rattle.monitor_requests.specs.Requests.{receives, delivery, deliver, answering, performed};
 ghost use Rattle.confidential_vm_remote_commands.specs.Homes.{Numbered, Homes};
@@ -96,9 +95,9 @@ pub fn broadcast(
     queues: &mut [u64],
     regions: &[u64],
 ) -> Answer
-    requires { (Sized (lent head home hardware queues regions)) × (sound (lent head home hardware queues regions) ≡ true) }
-    ensures { answering result (after head home hardware queues regions) []
-        ≡ performed (Send sender c) (before head home hardware queues regions) [] }
+    requires { let t = tables head.now home.now hardware.now queues.old regions.now in Sized t × (sound t ≡ true) }
+    ensures { answering result (tables head.now home.now hardware.now queues.new regions.now) []
+        ≡ performed (Send sender c) (tables head.now home.now hardware.now queues.old regions.now) [] }
 {
     let unknown = !c.is_well_formed();
     if unknown {
@@ -118,8 +117,8 @@ pub fn broadcast_remote_command(
     queues: &mut [u64],
     regions: &[u64],
 ) -> Answer
-    ensures { answering result (after head home hardware queues regions) []
-        ≡ performed (Send sender c) (before head home hardware queues regions) [] }
+    ensures { answering result (tables head.now home.now hardware.now queues.new regions.now) []
+        ≡ performed (Send sender c) (tables head.now home.now hardware.now queues.old regions.now) [] }
 {
     let unsound = !sound_tables::are_tables_sound(head, home, hardware, queues, regions);
     if unsound {

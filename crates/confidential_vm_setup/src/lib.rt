@@ -9,8 +9,7 @@ ghost use Rattle.std.specs.Prelude.{◌≡◌, ◌*◌, ◌≤◌, [], ◌∷◌
 ghost use Rattle.table_rows.specs.Rows.{rows_of, over};
 ghost use Rattle.confidential_hart.specs.Hart.{dummy};
 ghost use Rattle.hart_rows.specs.HartRows.{hart_words, to_words};
-ghost use Rattle.monitor_requests.specs.Tables.{max_harts, head_words, Long};
-ghost use Rattle.monitor_requests.specs.LentTables.{lent, before, after};
+ghost use Rattle.monitor_requests.specs.Tables.{max_harts, head_words, Long, tables};
 ghost use Rattle.monitor_requests.specs.Requests.{answering, set_up, setup_hart, fresh};
 
 use confidential_hart::{ConfidentialHart, ConfidentialHartId, HardwareHartId};
@@ -92,8 +91,8 @@ fn write(
     queues: &mut [u64],
     regions: &mut [u64],
 )
-    requires { (setup.harts ≤ max_harts) × Long (lent head home hardware queues regions) setup.harts setup.hardware }
-    ensures { after head home hardware queues regions ≡ fresh setup (before head home hardware queues regions) }
+    requires { (setup.harts ≤ max_harts) × Long (tables head.old home.old hardware.old queues.old regions.old) setup.harts setup.hardware }
+    ensures { tables head.new home.new hardware.new queues.new regions.new ≡ fresh setup (tables head.old home.old hardware.old queues.old regions.old) }
 {
     let commands = setup.harts as usize * QUEUE_WORDS;
     set_head(head, setup.harts, setup.hardware);
@@ -112,8 +111,8 @@ pub fn new(
     queues: &mut [u64],
     regions: &mut [u64],
 ) -> Answer
-    ensures { answering result (after head home hardware queues regions) []
-        ≡ set_up setup (before head home hardware queues regions) }
+    ensures { answering result (tables head.new home.new hardware.new queues.new regions.new) []
+        ≡ set_up setup (tables head.old home.old hardware.old queues.old regions.old) }
 {
     let in_range = sound_tables::are_counts_in_range(setup.harts, setup.hardware);
     let out_of_range = !(in_range & (setup.boot < setup.harts));

@@ -1,7 +1,7 @@
 // The steps of a run as code: a setup that is accepted starts one, any request goes on with it, and every row is the row worked out from the log.
 #![tactic(auto)]
 
-ghost use Rattle.monitor_requests.specs.LentTables.{before, after};
+ghost use Rattle.monitor_requests.specs.Tables.{tables};
 ghost use Rattle.ledger_entries.specs.Steps.{Begun, Asked};
 
 use monitor_requests::{Answer, Reply, Request, Setup};
@@ -15,7 +15,7 @@ pub fn new(
     queues: &mut [u64],
     regions: &mut [u64],
 ) -> Answer
-    ensures { Begun setup (before head home hardware queues regions) result (after head home hardware queues regions) }
+    ensures { Begun setup (tables head.old home.old hardware.old queues.old regions.old) result (tables head.new home.new hardware.new queues.new regions.new) }
 {
     confidential_vm_setup::new(setup, head, home, hardware, queues, regions)
 }
@@ -30,8 +30,8 @@ pub fn perform(
     regions: &mut [u64],
     effects: &mut [u64],
 ) -> Reply
-    ensures { Asked request (before head home hardware queues regions) effects.old
-        result (after head home hardware queues regions) effects.new }
+    ensures { Asked request (tables head.old home.old hardware.old queues.old regions.old) effects.old
+        result (tables head.new home.new hardware.new queues.new regions.new) effects.new }
 {
     perform_request::perform(request, head, home, hardware, queues, regions, effects)
 }

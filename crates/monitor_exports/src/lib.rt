@@ -6,8 +6,7 @@
 ghost use Rattle.std.specs.Prelude.{◌≡◌, ◌≤◌, length};
 ghost use Rattle.table_rows.specs.Choice.{pick};
 ghost use Rattle.monitor_requests.specs.declared.Request.TheVariants.{Steal, Return, Start, Status, Home, Send, Allow, Add, Remove, Defined, Suspend, Stop, Wake, Off, Await, Broadcast, Process, Resume};
-ghost use Rattle.monitor_requests.specs.Tables.{sound};
-ghost use Rattle.monitor_requests.specs.LentTables.{before, after};
+ghost use Rattle.monitor_requests.specs.Tables.{sound, tables};
 ghost use Rattle.monitor_requests.specs.FromNumbers.{hart_id, hardware_hart_id, setup_of, command_of};
 ghost use Rattle.export_values.specs.Exports.{written, exported, valued, numbered, unvalued, unvalued_setup};
 ghost use Rattle.monitor_exports.specs.Replies.{reply_value_words, reply_told, reply_exported, reply_valued};
@@ -31,7 +30,7 @@ pub extern "C" fn oudrameng_are_tables_sound(
     queues: &[u64],
     regions: &[u64],
 ) -> u64
-    ensures { result ≡ pick (sound (before head home hardware queues regions)) 1 0 }
+    ensures { result ≡ pick (sound (tables head.now home.now hardware.now queues.now regions.now)) 1 0 }
 {
     export_values::word_of(sound_tables::are_tables_sound(head, home, hardware, queues, regions))
 }
@@ -52,8 +51,8 @@ pub extern "C" fn oudrameng_new(
     queues: &mut [u64],
     regions: &mut [u64],
 ) -> u64
-    ensures { numbered result (after head home hardware queues regions)
-        ≡ unvalued_setup (setup_of n m boot a1 mepc vsatp vsstatus) (before head home hardware queues regions) }
+    ensures { numbered result (tables head.new home.new hardware.new queues.new regions.new)
+        ≡ unvalued_setup (setup_of n m boot a1 mepc vsatp vsstatus) (tables head.old home.old hardware.old queues.old regions.old) }
 {
     let setup = Setup {
         harts: n,
@@ -79,8 +78,8 @@ pub extern "C" fn oudrameng_steal_confidential_hart(
     regions: &[u64],
     value: &mut [u64],
 ) -> u64
-    ensures { exported result value.new (after head home hardware queues regions)
-        ≡ valued (Steal (hart_id hart) (hardware_hart_id on)) value.old (before head home hardware queues regions) }
+    ensures { exported result value.new (tables head.now home.new hardware.new queues.now regions.now)
+        ≡ valued (Steal (hart_id hart) (hardware_hart_id on)) value.old (tables head.now home.old hardware.old queues.now regions.now) }
 {
     if value.len() < VALUE_WORDS {
         return error::ROOM_TOO_SHORT;
@@ -107,8 +106,8 @@ pub extern "C" fn oudrameng_return_confidential_hart(
     queues: &[u64],
     regions: &[u64],
 ) -> u64
-    ensures { numbered result (after head home hardware queues regions)
-        ≡ unvalued (Return (hardware_hart_id on)) (before head home hardware queues regions) }
+    ensures { numbered result (tables head.now home.new hardware.new queues.now regions.now)
+        ≡ unvalued (Return (hardware_hart_id on)) (tables head.now home.old hardware.old queues.now regions.now) }
 {
     confidential_vm::return_confidential_hart(
         HardwareHartId(on),
@@ -130,8 +129,8 @@ pub extern "C" fn oudrameng_allow_external_interrupt(
     queues: &[u64],
     regions: &[u64],
 ) -> u64
-    ensures { numbered result (after head home hardware queues regions)
-        ≡ unvalued (Allow bits) (before head home hardware queues regions) }
+    ensures { numbered result (tables head.new home.now hardware.now queues.now regions.now)
+        ≡ unvalued (Allow bits) (tables head.old home.now hardware.now queues.now regions.now) }
 {
     confidential_vm::allow_external_interrupt(bits, head, home, hardware, queues, regions).number()
 }
@@ -148,8 +147,8 @@ pub extern "C" fn oudrameng_start_confidential_hart(
     queues: &[u64],
     regions: &[u64],
 ) -> u64
-    ensures { numbered result (after head home hardware queues regions)
-        ≡ unvalued (Start (hart_id hart) address opaque) (before head home hardware queues regions) }
+    ensures { numbered result (tables head.now home.new hardware.now queues.now regions.now)
+        ≡ unvalued (Start (hart_id hart) address opaque) (tables head.now home.old hardware.now queues.now regions.now) }
 {
     confidential_vm_lifecycle::start_confidential_hart(
         ConfidentialHartId(hart),
@@ -175,8 +174,8 @@ pub extern "C" fn oudrameng_confidential_hart_lifecycle_state(
     regions: &[u64],
     value: &mut [u64],
 ) -> u64
-    ensures { exported result value.new (after head home hardware queues regions)
-        ≡ valued (Status (hart_id hart)) value.old (before head home hardware queues regions) }
+    ensures { exported result value.new (tables head.now home.now hardware.now queues.now regions.now)
+        ≡ valued (Status (hart_id hart)) value.old (tables head.now home.now hardware.now queues.now regions.now) }
 {
     if value.len() < VALUE_WORDS {
         return error::ROOM_TOO_SHORT;
@@ -202,8 +201,8 @@ pub extern "C" fn oudrameng_is_vm_executing(
     regions: &[u64],
     value: &mut [u64],
 ) -> u64
-    ensures { exported result value.new (after head home hardware queues regions)
-        ≡ valued Home value.old (before head home hardware queues regions) }
+    ensures { exported result value.new (tables head.now home.now hardware.now queues.now regions.now)
+        ≡ valued Home value.old (tables head.now home.now hardware.now queues.now regions.now) }
 {
     if value.len() < VALUE_WORDS {
         return error::ROOM_TOO_SHORT;
@@ -229,8 +228,8 @@ pub extern "C" fn oudrameng_broadcast_remote_command(
     regions: &[u64],
     value: &mut [u64],
 ) -> u64
-    ensures { exported result value.new (after head home hardware queues regions)
-        ≡ valued (Send sender (command_of kind mask base start size tag)) value.old (before head home hardware queues regions) }
+    ensures { exported result value.new (tables head.now home.now hardware.now queues.new regions.now)
+        ≡ valued (Send sender (command_of kind mask base start size tag)) value.old (tables head.now home.now hardware.now queues.old regions.now) }
 {
     if value.len() < VALUE_WORDS {
         return error::ROOM_TOO_SHORT;
@@ -260,8 +259,8 @@ pub extern "C" fn oudrameng_add_mmio_region(
     queues: &[u64],
     regions: &mut [u64],
 ) -> u64
-    ensures { numbered result (after head home hardware queues regions)
-        ≡ unvalued (Add base size) (before head home hardware queues regions) }
+    ensures { numbered result (tables head.new home.now hardware.now queues.now regions.new)
+        ≡ unvalued (Add base size) (tables head.old home.now hardware.now queues.now regions.old) }
 {
     confidential_vm_mmio_regions::add_mmio_region(
         base, size, head, home, hardware, queues, regions,
@@ -279,8 +278,8 @@ pub extern "C" fn oudrameng_remove_mmio_region(
     queues: &[u64],
     regions: &mut [u64],
 ) -> u64
-    ensures { numbered result (after head home hardware queues regions)
-        ≡ unvalued (Remove base size) (before head home hardware queues regions) }
+    ensures { numbered result (tables head.new home.now hardware.now queues.now regions.new)
+        ≡ unvalued (Remove base size) (tables head.old home.now hardware.now queues.now regions.old) }
 {
     confidential_vm_mmio_regions::remove_mmio_region(
         base, size, head, home, hardware, queues, regions,
@@ -299,8 +298,8 @@ pub extern "C" fn oudrameng_is_mmio_region_defined(
     regions: &[u64],
     value: &mut [u64],
 ) -> u64
-    ensures { exported result value.new (after head home hardware queues regions)
-        ≡ valued (Defined base size) value.old (before head home hardware queues regions) }
+    ensures { exported result value.new (tables head.now home.now hardware.now queues.now regions.now)
+        ≡ valued (Defined base size) value.old (tables head.now home.now hardware.now queues.now regions.now) }
 {
     if value.len() < VALUE_WORDS {
         return error::ROOM_TOO_SHORT;
@@ -332,8 +331,8 @@ pub extern "C" fn oudrameng_suspend_confidential_hart(
     queues: &[u64],
     regions: &[u64],
 ) -> u64
-    ensures { numbered result (after head home hardware queues regions)
-        ≡ unvalued (Suspend (hardware_hart_id on)) (before head home hardware queues regions) }
+    ensures { numbered result (tables head.now home.now hardware.new queues.now regions.now)
+        ≡ unvalued (Suspend (hardware_hart_id on)) (tables head.now home.now hardware.old queues.now regions.now) }
 {
     confidential_flow_lifecycle::suspend_confidential_hart(
         HardwareHartId(on),
@@ -355,8 +354,8 @@ pub extern "C" fn oudrameng_stop_confidential_hart(
     queues: &[u64],
     regions: &[u64],
 ) -> u64
-    ensures { numbered result (after head home hardware queues regions)
-        ≡ unvalued (Stop (hardware_hart_id on)) (before head home hardware queues regions) }
+    ensures { numbered result (tables head.now home.now hardware.new queues.now regions.now)
+        ≡ unvalued (Stop (hardware_hart_id on)) (tables head.now home.now hardware.old queues.now regions.now) }
 {
     confidential_flow_lifecycle::stop_confidential_hart(
         HardwareHartId(on),
@@ -380,8 +379,8 @@ pub extern "C" fn oudrameng_resume_confidential_hart(
     queues: &[u64],
     regions: &[u64],
 ) -> u64
-    ensures { numbered result (after head home hardware queues regions)
-        ≡ unvalued (Wake (hardware_hart_id on) address opaque) (before head home hardware queues regions) }
+    ensures { numbered result (tables head.now home.now hardware.new queues.now regions.now)
+        ≡ unvalued (Wake (hardware_hart_id on) address opaque) (tables head.now home.now hardware.old queues.now regions.now) }
 {
     confidential_flow_lifecycle::resume_confidential_hart(
         HardwareHartId(on),
@@ -406,8 +405,8 @@ pub extern "C" fn oudrameng_shutdown_confidential_hart(
     queues: &[u64],
     regions: &[u64],
 ) -> u64
-    ensures { numbered result (after head home hardware queues regions)
-        ≡ unvalued (Off (hardware_hart_id on)) (before head home hardware queues regions) }
+    ensures { numbered result (tables head.now home.now hardware.new queues.now regions.now)
+        ≡ unvalued (Off (hardware_hart_id on)) (tables head.now home.now hardware.old queues.now regions.now) }
 {
     confidential_flow_lifecycle::shutdown_confidential_hart(
         HardwareHartId(on),
@@ -432,8 +431,8 @@ pub extern "C" fn oudrameng_set_resumable_operation(
     queues: &[u64],
     regions: &[u64],
 ) -> u64
-    ensures { numbered result (after head home hardware queues regions)
-        ≡ unvalued (Await (hardware_hart_id on) kind x y) (before head home hardware queues regions) }
+    ensures { numbered result (tables head.now home.now hardware.new queues.now regions.now)
+        ≡ unvalued (Await (hardware_hart_id on) kind x y) (tables head.now home.now hardware.old queues.now regions.now) }
 {
     confidential_flow::set_resumable_operation(
         HardwareHartId(on),
@@ -467,9 +466,9 @@ pub extern "C" fn oudrameng_flow_broadcast_remote_command(
     effects: &mut [u64],
     value: &mut [u64],
 ) -> u64
-    ensures { reply_exported result value.new (after head home hardware queues regions) effects.new
+    ensures { reply_exported result value.new (tables head.now home.now hardware.new queues.new regions.now) effects.new
         ≡ reply_valued (Broadcast (hardware_hart_id on) (command_of kind mask base start size tag))
-        value.old (before head home hardware queues regions) effects.old }
+        value.old (tables head.now home.now hardware.old queues.old regions.now) effects.old }
 {
     if value.len() < REPLY_VALUE_WORDS {
         return error::ROOM_TOO_SHORT;
@@ -507,8 +506,8 @@ pub extern "C" fn oudrameng_process_confidential_hart_remote_commands(
     effects: &mut [u64],
     value: &mut [u64],
 ) -> u64
-    ensures { reply_exported result value.new (after head home hardware queues regions) effects.new
-        ≡ reply_valued (Process (hardware_hart_id on)) value.old (before head home hardware queues regions) effects.old }
+    ensures { reply_exported result value.new (tables head.now home.now hardware.new queues.new regions.now) effects.new
+        ≡ reply_valued (Process (hardware_hart_id on)) value.old (tables head.now home.now hardware.old queues.old regions.now) effects.old }
 {
     if value.len() < REPLY_VALUE_WORDS {
         return error::ROOM_TOO_SHORT;
@@ -537,8 +536,8 @@ pub extern "C" fn oudrameng_resume_confidential_hart_execution(
     effects: &mut [u64],
     value: &mut [u64],
 ) -> u64
-    ensures { reply_exported result value.new (after head home hardware queues regions) effects.new
-        ≡ reply_valued (Resume (hardware_hart_id on)) value.old (before head home hardware queues regions) effects.old }
+    ensures { reply_exported result value.new (tables head.now home.now hardware.new queues.new regions.now) effects.new
+        ≡ reply_valued (Resume (hardware_hart_id on)) value.old (tables head.now home.now hardware.old queues.old regions.now) effects.old }
 {
     if value.len() < REPLY_VALUE_WORDS {
         return error::ROOM_TOO_SHORT;

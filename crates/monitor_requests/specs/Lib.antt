@@ -1,7 +1,6 @@
 -- The definitions that the promises of the monitor cite.
 pub mod Tables
 pub mod Soundness
-pub mod LentTables
 pub mod FromNumbers
 pub mod Answers
 pub mod Requests

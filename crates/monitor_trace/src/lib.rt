@@ -2,7 +2,7 @@
 #![tactic(auto)]
 
 ghost use Rattle.std.specs.Prelude.{◌≡◌};
-ghost use Rattle.monitor_requests.specs.LentTables.{before, after};
+ghost use Rattle.monitor_requests.specs.Tables.{tables};
 ghost use Rattle.monitor_requests.specs.Requests.{replied};
 ghost use Rattle.monitor_trace.specs.Trace.{line_outcome, turn, turned};
 
@@ -29,8 +29,8 @@ fn perform_traced(
     regions: &mut [u64],
     effects: &mut [u64],
 ) -> Reply
-    ensures { replied result (after head home hardware queues regions) effects.new
-        ≡ line_outcome (Parsed.Read line) ready (before head home hardware queues regions) effects.old }
+    ensures { replied result (tables head.new home.new hardware.new queues.new regions.new) effects.new
+        ≡ line_outcome (Parsed.Read line) ready (tables head.old home.old hardware.old queues.old regions.old) effects.old }
 {
     match line {
         TraceLine::SetUp(setup) => Reply {
@@ -59,8 +59,8 @@ fn perform_line(
     regions: &mut [u64],
     effects: &mut [u64],
 ) -> Reply
-    ensures { replied result (after head home hardware queues regions) effects.new
-        ≡ line_outcome parsed ready (before head home hardware queues regions) effects.old }
+    ensures { replied result (tables head.new home.new hardware.new queues.new regions.new) effects.new
+        ≡ line_outcome parsed ready (tables head.old home.old hardware.old queues.old regions.old) effects.old }
 {
     match parsed {
         Parsed::Read(line) => perform_traced(
@@ -83,8 +83,8 @@ pub fn answer_line(
     effects: &mut [u64],
     out: &mut [u8],
 ) -> Turn
-    ensures { turned result (after head home hardware queues regions) effects.new out.new
-        ≡ turn parsed ready (before head home hardware queues regions) effects.old out.old }
+    ensures { turned result (tables head.new home.new hardware.new queues.new regions.new) effects.new out.new
+        ≡ turn parsed ready (tables head.old home.old hardware.old queues.old regions.old) effects.old out.old }
 {
     if out.len() < MOST_PRINTED {
         return Turn {

@@ -2,7 +2,7 @@
 #![tactic(auto)]
 
 ghost use Rattle.std.specs.Prelude.{◌≡◌, true, []};
-ghost use Rattle.monitor_requests.specs.LentTables.{before, after};
+ghost use Rattle.monitor_requests.specs.Tables.{tables};
 ghost use Rattle.monitor_requests.specs.Requests.{answering, replied, performed, does_no_command};
 ghost use Rattle.perform_request.specs.HardwareAlone.{hardware_alone};
 
@@ -18,8 +18,8 @@ fn perform_on_hardware(
     regions: &[u64],
 ) -> Answer
     requires { hardware_alone request ≡ true }
-    ensures { answering result (after head home hardware queues regions) []
-        ≡ performed request (before head home hardware queues regions) [] }
+    ensures { answering result (tables head.now home.now hardware.new queues.now regions.now) []
+        ≡ performed request (tables head.now home.now hardware.old queues.now regions.now) [] }
 {
     match request {
         Request::Suspend(on) => confidential_flow_lifecycle::suspend_confidential_hart(
@@ -57,8 +57,8 @@ fn perform_without_effects(
     regions: &mut [u64],
 ) -> Answer
     requires { does_no_command request ≡ true }
-    ensures { answering result (after head home hardware queues regions) []
-        ≡ performed request (before head home hardware queues regions) [] }
+    ensures { answering result (tables head.new home.new hardware.new queues.new regions.new) []
+        ≡ performed request (tables head.old home.old hardware.old queues.old regions.old) [] }
 {
     match request {
         Request::Steal(hart, on) => confidential_vm::steal_confidential_hart(
@@ -96,8 +96,8 @@ pub fn perform(
     regions: &mut [u64],
     effects: &mut [u64],
 ) -> Reply
-    ensures { replied result (after head home hardware queues regions) effects.new
-        ≡ performed request (before head home hardware queues regions) effects.old }
+    ensures { replied result (tables head.new home.new hardware.new queues.new regions.new) effects.new
+        ≡ performed request (tables head.old home.old hardware.old queues.old regions.old) effects.old }
 {
     match request {
         Request::Broadcast(on, c) => confidential_flow_remote_commands::broadcast_remote_command(

@@ -6,8 +6,7 @@ ghost use Rattle.table_rows.specs.Rows.{row};
 ghost use Rattle.table_rows.specs.Choice.{every};
 ghost use Rattle.hart_rows.specs.HartRows.{hart_words};
 ghost use Rattle.remote_commands.specs.Queue.{queue_words, queue_well_formed};
-ghost use Rattle.monitor_requests.specs.Tables.{max_harts, max_hardware_harts, counts_in_range, long_enough, row_sound, sound};
-ghost use Rattle.monitor_requests.specs.LentTables.{before};
+ghost use Rattle.monitor_requests.specs.Tables.{max_harts, max_hardware_harts, counts_in_range, long_enough, row_sound, sound, tables};
 
 use confidential_hart::{NO_VM, VM};
 use hart_rows::HART_WORDS;
@@ -36,7 +35,7 @@ pub fn are_long_enough(
     regions: &[u64],
 ) -> bool
     requires { (n ≤ max_harts) × (m ≤ max_hardware_harts) }
-    ensures { result ≡ long_enough (before head home hardware queues regions) n m }
+    ensures { result ≡ long_enough (tables head.now home.now hardware.now queues.now regions.now) n m }
 {
     (HEAD_WORDS <= head.len())
         & (n as usize * HART_WORDS <= home.len())
@@ -120,7 +119,7 @@ pub fn are_tables_sound(
     queues: &[u64],
     regions: &[u64],
 ) -> bool
-    ensures { result ≡ sound (before head home hardware queues regions) }
+    ensures { result ≡ sound (tables head.now home.now hardware.now queues.now regions.now) }
 {
     if head.len() < HEAD_WORDS {
         return false;

@@ -20,13 +20,12 @@ returns-then-is_dummy c =
     (yes _ (sym c.is_dummy.ensures ∙ c.if-is_dummy.true) refl)
 
 pub lifecycle_change-entry-requires : goal.lifecycle_change-entry-requires
-lifecycle_change-entry-requires c =
-    (
-      (formed_facts c.args.self
-          (not-false _ (ap not (sym c.is_well_formed-malformed.ensures ∙ c.if-malformed.false)))
-          ).state_known,
-      search rules,
-    )
+lifecycle_change-entry-requires c = (
+  (formed_facts c.args.self
+      (not-false _ (ap not (sym c.is_well_formed-malformed.ensures ∙ c.if-malformed.false)))
+      ).state_known,
+  search rules,
+)
 
 pub returns-then-entry-gt-POWERED_OFF : goal.returns-then-entry-gt-POWERED_OFF
 unfolding transition
