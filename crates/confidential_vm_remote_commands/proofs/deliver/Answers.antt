@@ -1,7 +1,5 @@
 -- `confidential_vm_remote_commands::deliver` meets its contract: what is left from here is what was left from the start. Assumes nothing.
-use Prim.Native.Nat.{ℕ}
 use mathlib.Core.Path.{◌≡◌, refl, sym, ◌∙◌}
-use mathlib.Core.Logic.{◌⊎◌, ⊎_elim}
 use borrow.Author.Rules.{rules}
 use native.Mathlib.Omega.{arith}
 use Rattle.table_rows.proofs.RowLaws.{within}
@@ -22,23 +20,18 @@ visit-requires c =
       omega (arith, within queue_words _ _ t, p.1, c.loop-i.invariant.1),
     )
 
--- the number of `Mask` among the answers is none of the others'
-other : (n : ℕ) → n ≡ 2 → (n ≡ 0) ⊎ (n ≡ 1) ⊎ (n ≡ 3) ⊎ (n ≡ 4) ⊎ (n ≡ 5) ⊎ (n ≡ 6) ⊎ (n ≡ 7) ⊎ (n ≡ 8) → ⊥
-other n e =
-    ⊎_elim (λ f. omega arith) (⊎_elim (λ f. omega arith) (⊎_elim (λ f. omega arith) (⊎_elim (λ f. omega arith)
-    (⊎_elim (λ f. omega arith) (⊎_elim (λ f. omega arith) (⊎_elim (λ f. omega arith) (λ f. omega arith)))))))
-
 pub returns-in_default : goal.returns-in_default
 returns-in_default c =
-    sym (turn_ends _ _ _ _ _ _ _ c.loop-i-test.true _ _ c.visit.ensures (λ m e. other _ refl (rw e at c.in_default.keys2)))
+    sym (turn_ends _ _ _ _ _ _ _ c.loop-i-test.true _ _ c.visit.ensures c.in_default.not-Mask)
     ∙ c.loop-i.invariant.2
 
 pub loop-i-preserved : goal.loop-i-preserved
-loop-i-preserved c = (
-  search rules,
-  c.visit.auto.1.1.1.1.1.0 ∙ c.loop-i.invariant.1,
-  sym (turn_taken _ _ _ _ _ _ _ c.loop-i-test.true _ _ c.visit.ensures _ c.m-1.given.1) ∙ c.loop-i.invariant.2,
-)
+loop-i-preserved c =
+    (
+      search rules,
+      search rules,
+      sym (turn_taken _ _ _ _ _ _ _ c.loop-i-test.true _ _ c.visit.ensures _ c.in-Mask.is) ∙ c.loop-i.invariant.2,
+    )
 
 pub returns : goal.returns
 returns c = sym (turns_done _ _ _ _ _ _ _ c.loop-i-test.false) ∙ c.loop-i.invariant.2

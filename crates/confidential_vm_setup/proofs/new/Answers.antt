@@ -18,23 +18,23 @@ ranged {range = range} below e t = and_left range below (not-false _ (in_range b
 
 pub returns-then-out_of_range : goal.returns-then-out_of_range
 unfolding set_up setup_tests
-returns-then-out_of_range c = yes _ (in_range _ c.are_counts_in_range-in_range.ensures c.if-out_of_range.true) refl
+returns-then-out_of_range c = yes _ (in_range _ c.are_counts_in_range-in_range.ensures (ap not c.if-out_of_range.true)) refl
 
 pub are_long_enough-too_short-requires : goal.are_long_enough-too_short-requires
 are_long_enough-too_short-requires c =
-    let range = ranged _ c.are_counts_in_range-in_range.ensures c.if-out_of_range.false in
+    let range = ranged _ c.are_counts_in_range-in_range.ensures (ap not c.if-out_of_range.false) in
     let setup = c.args.setup in
     (range_few_harts setup.harts setup.hardware range, range_few_hardware setup.harts setup.hardware range)
 
 pub returns-then-too_short : goal.returns-then-too_short
 unfolding set_up setup_tests
 returns-then-too_short c =
-    no _ (in_range _ c.are_counts_in_range-in_range.ensures c.if-out_of_range.false)
+    no _ (in_range _ c.are_counts_in_range-in_range.ensures (ap not c.if-out_of_range.false))
     (yes _ (ap not (sym c.are_long_enough-too_short.ensures ∙ c.if-too_short.true)) refl)
 
 pub write-requires : goal.write-requires
 write-requires c =
-    let range = ranged _ c.are_counts_in_range-in_range.ensures c.if-out_of_range.false in
+    let range = ranged _ c.are_counts_in_range-in_range.ensures (ap not c.if-out_of_range.false) in
     let setup = c.args.setup in (
       range_few_harts setup.harts setup.hardware range,
       long_facts _ _ _ (not-false _ (ap not (sym c.are_long_enough-too_short.ensures ∙ c.if-too_short.false))),
@@ -43,5 +43,5 @@ write-requires c =
 pub returns : goal.returns
 unfolding set_up setup_tests
 returns c =
-    no _ (in_range _ c.are_counts_in_range-in_range.ensures c.if-out_of_range.false)
+    no _ (in_range _ c.are_counts_in_range-in_range.ensures (ap not c.if-out_of_range.false))
     (no _ (ap not (sym c.are_long_enough-too_short.ensures ∙ c.if-too_short.false)) (ap (λ x. answering Done x []) c.write.ensures))
