@@ -242,10 +242,10 @@ read_good x (byte ∷ text) e = fed_good x byte (read_good (fed x byte) text e)
 
 said_read : {x : Reading} {front : List ℕ} → Said x front → (text : List ℕ) → (read_on x text).line.bad ≡ false
     → Said (read_on x text) (front ++ text)
-said_read {x} {front} said [] e = subst (Said x) (sym (append-nil front)) said
-said_read {x} {front} said (byte ∷ text) e =
+said_read {x = x} {front = front} said [] e = subst (Said x) (sym (append-nil front)) said
+said_read {x = x} {front = front} said (byte ∷ text) e =
     subst (Said (read_on (fed x byte) text)) (append_assoc front (byte ∷ []) text)
-    (said_read (said_fed said byte (read_good (fed x byte) text e)) text e)
+    (said_read {x = fed x byte} {front = front ++ (byte ∷ [])} (said_fed said byte (read_good (fed x byte) text e)) text e)
 
 -- a line has fields at its end where its last field can end
 fields_ended : (x : Reading) → Ends x → fields_in x ≡ before x ++ (x.line.value ∷ [])

@@ -9,8 +9,8 @@ use Rattle.trace_text.proofs.digit_count.Goals as goal
 pub loop-left-init : goal.loop-left-init
 loop-left-init c = (omega arith, omega arith)
 
-pub overflow-add-count : goal.overflow-add-count
-overflow-add-count c = omega (arith, digits_most c.args.base 0 20 c.args.n)
+pub overflow_add-count : goal.overflow_add-count
+overflow_add-count c = omega (arith, digits_most c.args.base 0 20 c.args.n)
 
 pub loop-left-smaller : goal.loop-left-smaller
 loop-left-smaller c = div-lt_self (omega arith) (omega arith)

@@ -3,8 +3,8 @@ use native.Mathlib.Omega.{arith}
 use Rattle.trace_text.proofs.SpelledLaws.{count_alike}
 use Rattle.trace_text.proofs.put_spelled.Goals as goal
 
-pub overflow-add-end : goal.overflow-add-end
-overflow-add-end c =
+pub overflow_add-end : goal.overflow_add-end
+overflow_add-end c =
     omega (arith, count_alike c.args.base 0 c.args.nought 20 c.args.n)
 
 pub store_digits-requires : goal.store_digits-requires

@@ -13,18 +13,18 @@ use Rattle.trace_text.proofs.store_digits.Goals as goal
 pub loop-left-init : goal.loop-left-init
 loop-left-init c = (omega arith, c.requires.2, c.requires.3, refl, refl)
 
-pub overflow-sub-place : goal.overflow-sub-place
-overflow-sub-place c = omega (arith, digits_some c.args.base c.args.nought 19 c.loop-left.left)
+pub overflow_sub-place : goal.overflow_sub-place
+overflow_sub-place c = omega (arith, digits_some c.args.base c.args.nought 19 c.loop-left.left)
 
 -- a digit is below the base
 digit-fits : (left base : ℕ) → 10 ≤ base → left % base < base
 digit-fits left base ten = mod-lt left (omega arith)
 
-pub overflow-cast-out : goal.overflow-cast-out
-overflow-cast-out c = omega (arith, digit-fits c.loop-left.left c.args.base (omega arith))
+pub overflow_cast-out : goal.overflow_cast-out
+overflow_cast-out c = omega (arith, digit-fits c.loop-left.left c.args.base (omega arith))
 
-pub overflow-add-out : goal.overflow-add-out
-overflow-add-out c = omega (arith, digit-fits c.loop-left.left c.args.base (omega arith))
+pub overflow_add-out : goal.overflow_add-out
+overflow_add-out c = omega (arith, digit-fits c.loop-left.left c.args.base (omega arith))
 
 pub bounds-out-place : goal.bounds-out-place
 bounds-out-place c = omega (arith, digits_some c.args.base c.args.nought 19 c.loop-left.left)
