@@ -1,0 +1,6 @@
+-- `monitor_exports::oudrameng_return_confidential_hart` meets its contract: the entry's answer, by its number. Assumes nothing.
+use Rattle.export_values.proofs.ExportLaws.{number_told}
+use Rattle.monitor_exports.proofs.oudrameng_return_confidential_hart.Goals as goal
+
+pub returns : goal.returns
+returns c = number_told c.return_confidential_hart.ensures c.number.ensures
