@@ -6,10 +6,11 @@ ghost use Rattle.std.specs.Prelude.{◌≡◌, ◌+◌, ◌<◌, ◌≤◌, leng
 
 use effects::EFFECT_WORDS;
 use hart_rows::HART_WORDS;
-use libc::{STDIN_FILENO, STDOUT_FILENO};
+use memchr::memchr;
 use mmio_regions::TABLE_WORDS;
 use monitor_requests::HEAD_WORDS;
 use remote_commands::{MAX_NUMBER_OF_COMMANDS, QUEUE_WORDS};
+use std::io::{Print, Read};
 use trace_answers::MOST_PRINTED;
 use trace_fields::Line;
 use trace_requests::FIELDS;
@@ -28,6 +29,9 @@ const QUEUES_WORDS: usize = HARTS * QUEUE_WORDS;
 
 const EFFECTS_WORDS: usize = MAX_NUMBER_OF_COMMANDS * EFFECT_WORDS;
 
+// The bytes of the buffers that the input is read to and the output waits in.
+const BUFFER: usize = 1 << 16;
+
 // A trace so far: the line that is being read, whether a setup was accepted, how many bytes of the output wait to be written, whether a write
 // failed, and how many blocks may still be read: none once the input ended or a write failed. A loop has to end, so this counts down, from a
 // number that no run uses up.
@@ -41,7 +45,7 @@ struct Trace {
 }
 
 // Writes the output that waits. Once a write failed nothing more is written.
-fn flush(trace: Trace, output: &[u8]) -> Trace
+fn flush<R: Print>(rt: &R, trace: Trace, output: &[u8]) -> Trace
     requires { trace.waiting ≤ length output.now }
     ensures { result.waiting ≤ length output.now }
 {
@@ -51,17 +55,17 @@ fn flush(trace: Trace, output: &[u8]) -> Trace
     if trace.failed {
         return written;
     }
-    written.failed = !io::write_all(STDOUT_FILENO, &output[..waiting]);
+    written.failed = rt.write_all(&output[..waiting]).is_err();
     written
 }
 
 // Writes the output that waits, where the rest has too little room for an answer.
-fn make_room(trace: Trace, output: &[u8]) -> Trace
+fn make_room<R: Print>(rt: &R, trace: Trace, output: &[u8]) -> Trace
     requires { trace.waiting ≤ length output.now }
     ensures { result.waiting ≤ length output.now }
 {
     if output.len() - trace.waiting < MOST_PRINTED {
-        return flush(trace, output);
+        return flush(rt, trace, output);
     }
     trace
 }
@@ -75,7 +79,8 @@ fn longer(waiting: usize, more: usize, output: &[u8]) -> usize
 }
 
 // Answers the line that was read, if it ends here.
-fn answer(
+fn answer<R: Print>(
+    rt: &R,
     trace: Trace,
     ends: bool,
     fields: &mut [u64],
@@ -93,7 +98,7 @@ fn answer(
     if !ends {
         return trace;
     }
-    let roomy = make_room(trace, output);
+    let roomy = make_room(rt, trace, output);
     let line = roomy.line;
     let at = roomy.waiting;
     let parsed = trace_requests::request(line, fields);
@@ -118,6 +123,17 @@ fn answer(
     }
 }
 
+// Where the line that starts at `from` stops: at its line end, or at `end` where it has none.
+fn line_stop(input: &[u8], from: usize, end: usize) -> usize
+    requires { (from ≤ end) × (end ≤ length input.now) }
+    ensures { (from ≤ result) × (result ≤ end) }
+{
+    match memchr(LINE_END, &input[from..end]) {
+        Some(at) => from + at,
+        None => end,
+    }
+}
+
 // The place after a line that starts at `from` and stops at `stop`: past its line end, or `end` where it has none.
 fn next_line(from: usize, stop: usize, end: usize) -> usize
     requires { (from < end) × (from ≤ stop) × (stop ≤ end) }
@@ -127,7 +143,8 @@ fn next_line(from: usize, stop: usize, end: usize) -> usize
 }
 
 // Answers the lines that end in the first `end` bytes of the input, and reads the start of the next.
-fn block(
+fn block<R: Print>(
+    rt: &R,
     trace: Trace,
     input: &[u8],
     end: usize,
@@ -146,16 +163,16 @@ fn block(
     let mut so_far = trace;
     let mut from = 0;
     while from < end {
-        let stop = bytes::scan::find(input, from, end, LINE_END);
+        let stop = line_stop(input, from, end);
         let ends = stop < end;
         let line = trace_fields::read(so_far.line, &input[from..stop], fields);
         so_far.line = line;
         so_far = answer(
-            so_far, ends, fields, head, home, hardware, queues, regions, effects, output,
+            rt, so_far, ends, fields, head, home, hardware, queues, regions, effects, output,
         );
         from = next_line(from, stop, end);
     }
-    flush(so_far, output)
+    flush(rt, so_far, output)
 }
 
 // Ends a last line that has no line end: where a read brought nothing, a line that was begun is given one. Gives how many bytes are to be read.
@@ -189,9 +206,9 @@ fn counted(trace: Trace, blocks: u64, count: usize) -> Trace
 
 // Reads the whole input, block by block, and answers the lines that end in each. The end of the input ends a line too; after a read that fails
 // a line that was begun is left alone.
-fn main() {
-    let mut input = io::large_buffer();
-    let mut output = io::large_buffer();
+fn main(rt: HostRuntime) {
+    let mut input = [0u8; BUFFER];
+    let mut output = [0u8; BUFFER];
     let mut fields = [0u64; FIELDS];
     let mut head = [0u64; HEAD_WORDS];
     let mut home = [0u64; HOME_WORDS];
@@ -208,13 +225,13 @@ fn main() {
     };
     while 0 < trace.blocks {
         let blocks = trace.blocks;
-        let got = libc::read(STDIN_FILENO, &mut input);
-        if got < 0 {
-            return;
-        }
-        let count = io::count(got, &input);
+        let count = match rt.stdin().read(&mut input) {
+            Ok(count) => count,
+            Err(_) => return,
+        };
         let end = end_line(trace.line, count, &mut input);
         let next = block(
+            &rt,
             trace,
             &input,
             end,
