@@ -4,8 +4,4 @@ pub mod SurveyLaws
 pub mod AnswerLaws
 pub mod AgreeLaws
 pub mod RunLaws
-pub mod Calls
-pub mod Scan
-pub mod RunCalls
-pub mod Changes
 pub mod Examples
