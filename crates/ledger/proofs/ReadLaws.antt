@@ -20,7 +20,7 @@ use Rattle.hart_standing.proofs.ChangedLaws.{View, view}
 use Rattle.ledger.specs.Log.{Entry, Log, log, Move, stays, steals, returns, Who, wait_for, Says, is_some, heard}
 use Rattle.ledger.specs.WorkedOut.{
   or_else,
-  get_or,
+  unwrap_or,
   latest,
   since,
   steals_hart,
@@ -95,9 +95,9 @@ place_next e es h =
 abbrev pub changed : Says → List ConfidentialHartRemoteCommand → ℕ → ConfidentialHart → ConfidentialHart
 changed u waits h x =
     hart_of x.vm x.id (lifecycle_after u (done_by u waits h) x.lifecycle)
-    (get_or u.wait (wait_for x.operation x.x x.y)).kind
-    (get_or u.wait (wait_for x.operation x.x x.y)).x
-    (get_or u.wait (wait_for x.operation x.x x.y)).y
+    (unwrap_or u.wait (wait_for x.operation x.x x.y)).kind
+    (unwrap_or u.wait (wait_for x.operation x.x x.y)).x
+    (unwrap_or u.wait (wait_for x.operation x.x x.y)).y
     (u.registers x.registers)
 
 -- hart h's record: changed where the entry is about it

@@ -28,9 +28,9 @@ or_else none y = y
 or_else (some x) y = some x
 
 -- what it holds, or else y
-abbrev pub get_or : {A : Type 0} → Option A → A → A
-get_or none y = y
-get_or (some x) y = x
+abbrev pub unwrap_or : {A : Type 0} → Option A → A → A
+unwrap_or none y = y
+unwrap_or (some x) y = x
 
 -- what f reads in the last entry in which it reads something
 unfoldable pub latest : {A : Type 0} → (Says → Option A) → List Entry → Option A
@@ -120,7 +120,7 @@ done_by u queue h = pick u.empties queue (selected u.does h)
 
 -- the lifecycle after a request that is about a hart which did these commands: a done kind 6 counts as off
 abbrev pub lifecycle_after : Says → List ConfidentialHartRemoteCommand → ℕ → ℕ
-lifecycle_after u did before = pick (shuts_down did) powered_off (get_or u.lifecycle before)
+lifecycle_after u did before = pick (shuts_down did) powered_off (unwrap_or u.lifecycle before)
 
 -- ---- the rows
 
@@ -153,7 +153,7 @@ module _ (s : Setup) where
 -- operation: the last set and not taken
 unfoldable pub operation : List Entry → ℕ → Wait
 operation [] h = no_wait
-operation (e ∷ es) h = pick (about e es h) (get_or (heard e).wait (operation es h)) (operation es h)
+operation (e ∷ es) h = pick (about e es h) (unwrap_or (heard e).wait (operation es h)) (operation es h)
 
 -- a remove of q drops r
 abbrev pub drops : ConfidentialVmMmioRegion → ConfidentialVmMmioRegion → Bool

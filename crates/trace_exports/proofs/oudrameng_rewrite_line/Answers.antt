@@ -3,4 +3,4 @@ use Rattle.trace_exports.proofs.oudrameng_rewrite_line.Goals as goal
 
 pub returns : goal.returns
 returns c =
-    record { said = c.parse-parsed.result; reads = c.parse-parsed.ensures; c = c.rewrite.ensures }
+    record { said = c.parse-parsed.result; reads = c.parse-parsed.ensures; writes = c.rewrite.ensures }
