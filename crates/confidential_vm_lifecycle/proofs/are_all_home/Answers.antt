@@ -1,10 +1,8 @@
 -- `confidential_vm_lifecycle::are_all_home` meets its contract: a loop that stops at the first dummy. Assumes nothing.
 use mathlib.Core.Path.{sym, ◌∙◌}
-use mathlib.Core.Bool.{true}
 use borrow.Author.Rules.{rules}
 use Rattle.table_rows.proofs.PickLaws.{not_yes, not_no}
 use Rattle.table_rows.proofs.EveryLaws.{every_none, every_more, every_not, every_all}
-use Rattle.confidential_hart.specs.Hart.{is_dummy}
 use Rattle.confidential_vm_lifecycle.proofs.are_all_home.Goals as goal
 
 pub loop-h-init : goal.loop-h-init

@@ -1,5 +1,5 @@
 -- `confidential_vm_remote_commands::deliver` meets its contract: what is left from here is what was left from the start. Assumes nothing.
-use mathlib.Core.Path.{◌≡◌, refl, sym, ◌∙◌}
+use mathlib.Core.Path.{refl, sym, ◌∙◌}
 use borrow.Author.Rules.{rules}
 use native.Mathlib.Omega.{arith}
 use Rattle.table_rows.proofs.RowLaws.{within}
@@ -26,12 +26,11 @@ returns-in_default c =
     ∙ c.loop-i.invariant.2
 
 pub loop-i-preserved : goal.loop-i-preserved
-loop-i-preserved c =
-    (
-      search rules,
-      search rules,
-      sym (turn_taken _ _ _ _ _ _ _ c.loop-i-test.true _ _ c.visit.ensures _ c.in-Mask.is) ∙ c.loop-i.invariant.2,
-    )
+loop-i-preserved c = (
+  search rules,
+  search rules,
+  sym (turn_taken _ _ _ _ _ _ _ c.loop-i-test.true _ _ c.visit.ensures _ c.in-Mask.is) ∙ c.loop-i.invariant.2,
+)
 
 pub returns : goal.returns
 returns c = sym (turns_done _ _ _ _ _ _ _ c.loop-i-test.false) ∙ c.loop-i.invariant.2

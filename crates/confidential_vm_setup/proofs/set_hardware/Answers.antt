@@ -1,7 +1,6 @@
 -- `confidential_vm_setup::set_hardware` meets its contract: the rows passed hold their dummies, the rest is as it was. Assumes nothing.
 use mathlib.Core.Path.{refl}
 use borrow.Author.Rules.{rules}
-use Rattle.confidential_hart.specs.Hart.{dummy}
 use Rattle.confidential_vm_setup.proofs.WriteLaws.{harts_none, harts_next, harts_done}
 use Rattle.confidential_vm_setup.proofs.set_hardware.Goals as goal
 

@@ -31,14 +31,14 @@ keep-kept-requires c =
 pub offset_bounds-regions-next : goal.offset_bounds-regions-next
 offset_bounds-regions-next c =
     let f = few c.args.regions.now c.args.query c.args.count c.loop-i.i c.loop-i.next c.loop-i.regions c.requires c.loop-i-test.true
-        c.loop-i.invariant.1 in
+    c.loop-i.invariant.1 in
     let there : c.loop-i.next < length c.loop-i.regions = omega (arith, f.0, f.1, c.requires) in
     search rules
 
 pub bounds-regions-next : goal.bounds-regions-next
 bounds-regions-next c =
     let f = few c.args.regions.now c.args.query c.args.count c.loop-i.i c.loop-i.next c.loop-i.regions c.requires c.loop-i-test.true
-        c.loop-i.invariant.1 in
+    c.loop-i.invariant.1 in
     simp length-set (omega (arith, f.0, f.1))
 
 pub loop-i-preserved : goal.loop-i-preserved

@@ -1,7 +1,5 @@
 -- `mmio_regions::find_containing` meets its contract: no place that was passed contains the query. Assumes nothing.
-use mathlib.Core.Bool.{false}
 use borrow.Author.Rules.{rules}
-use Rattle.confidential_vm_mmio_region.specs.Region.{contains}
 use Rattle.mmio_regions.proofs.TableLaws.{none_yet, none_next, first_here, first_none}
 use Rattle.mmio_regions.proofs.find_containing.Goals as goal
 

@@ -1,5 +1,5 @@
 -- `monitor::answer` meets its contract: what waits to be written stays within the buffer. Assumes nothing.
-use Prim.Native.Nat.{◌+◌, ◌-◌, ◌≤◌}
+use Prim.Native.Nat.{◌-◌}
 use lib.ListN.{length}
 use borrow.Rule.Slice.PartMut.{same_len_mid}
 use Rattle.monitor_trace.proofs.TurnLaws.{answered_within}

@@ -1,6 +1,6 @@
 -- `remote_commands::find` meets its contract: no command passed so far equals c. Assumes nothing.
 use borrow.Author.Rules.{rules}
-use mathlib.Core.Bool.{true, not}
+use mathlib.Core.Bool.{not}
 use mathlib.Core.Path.{ap}
 use Rattle.table_rows.proofs.EveryLaws.{every_none, every_all}
 use Rattle.remote_commands.specs.Queue.{queued}

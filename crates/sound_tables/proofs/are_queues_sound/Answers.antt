@@ -1,7 +1,7 @@
 -- `sound_tables::are_queues_sound` meets its contract: each queue that was passed is well formed. Assumes nothing.
 use borrow.Author.Rules.{rules}
 use mathlib.Core.Path.{sym, ap, ◌∙◌}
-use mathlib.Core.Bool.{true, not}
+use mathlib.Core.Bool.{not}
 use Rattle.table_rows.proofs.EveryLaws.{every_none, every_next, every_stop, every_all}
 use Rattle.sound_tables.proofs.are_queues_sound.Goals as goal
 

@@ -1,7 +1,7 @@
 -- `sound_tables::are_rows_sound` meets its contract: each row that was passed is sound. Assumes nothing.
 use borrow.Author.Rules.{rules}
 use mathlib.Core.Path.{sym, ap, ◌∙◌}
-use mathlib.Core.Bool.{true, not}
+use mathlib.Core.Bool.{not}
 use Rattle.table_rows.proofs.EveryLaws.{every_none, every_next, every_stop, every_all}
 use Rattle.sound_tables.proofs.are_rows_sound.Goals as goal
 

@@ -1,10 +1,8 @@
 -- `trace_fields::close` meets its contract. Assumes nothing.
 use mathlib.Core.Path.{refl, ap}
-use native.Mathlib.Omega.{arith}
 use Rattle.table_rows.proofs.PickLaws.{yes, no}
 use Rattle.trace_fields.specs.declared.Line.{Line}
 use Rattle.trace_fields.specs.Fields.{closed, reading}
-use Rattle.trace_fields.proofs.FieldLaws.{ends_placed}
 use Rattle.trace_fields.proofs.close.Goals as goal
 
 pub returns-then-line-fields : goal.returns-then-line-fields

@@ -2,12 +2,11 @@
 use Prim.Native.Nat.{ℕ, ◌+◌, ◌*◌}
 use mathlib.Core.Path.{ap}
 use mathlib.Core.Bool.{true, false}
-use native.Mathlib.Omega.{arith}
 use borrow.Author.Rules.{rules}
 use borrow.Author.Tests.{le-leb, lt-leb}
 use Rattle.table_rows.proofs.PickLaws.{yes, no}
-use Rattle.trace_fields.specs.Fields.{more, spoilt}
-use Rattle.trace_fields.proofs.FieldLaws.{follows_low, too_high, not_too_high}
+use Rattle.trace_fields.specs.Fields.{more}
+use Rattle.trace_fields.proofs.FieldLaws.{too_high, not_too_high}
 use Rattle.trace_fields.proofs.Line.more.Goals as goal
 
 pub returns-then-self-value : goal.returns-then-self-value
