@@ -81,7 +81,7 @@ pub fn run_program(program: Program, seed: u64, count: usize) -> Result<Seen, St
     Err(format!("The fewest lines that were found:\n{text}At the last: {}", left.complaint))
 }
 
-/// The same to the trace program, as `rt check monitor` builds it.
+/// The same to the trace program, as `tools/build monitor` builds it.
 pub fn run(seed: u64, count: usize) -> Result<Seen, String> {
     run_program((&root().join("target/bin/monitor"), &[]), seed, count)
 }
