@@ -16,14 +16,14 @@ unfolding performed tests effect
 returns-then-busy c =
     no _ (not_no _ c.requires.1)
     (no _ (lt-leb _ _ c.if-head-on.false)
-    (yes _ (ap not (sym c.is_dummy-busy.ensures ∙ c.if-busy.true)) refl))
+    (yes _ (cc) refl))
 
 pub returns-then-head-hart : goal.returns-then-head-hart
 unfolding performed tests effect
 returns-then-head-hart c =
     no _ (not_no _ c.requires.1)
     (no _ (lt-leb _ _ c.if-head-on.false)
-    (no _ (ap not (sym c.is_dummy-busy.ensures ∙ c.if-busy.false))
+    (no _ (cc)
     (yes _ (le-leb _ _ c.if-head-hart.true) refl)))
 
 pub returns-then-away : goal.returns-then-away
@@ -31,7 +31,7 @@ unfolding performed tests effect
 returns-then-away c =
     no _ (not_no _ c.requires.1)
     (no _ (lt-leb _ _ c.if-head-on.false)
-    (no _ (ap not (sym c.is_dummy-busy.ensures ∙ c.if-busy.false))
+    (no _ (cc)
     (no _ (lt-leb _ _ c.if-head-hart.false)
     (yes _ (sym c.is_dummy-away.ensures ∙ c.if-away.true) refl))))
 
@@ -40,7 +40,7 @@ unfolding performed tests effect
 returns-then-unfit c =
     no _ (not_no _ c.requires.1)
     (no _ (lt-leb _ _ c.if-head-on.false)
-    (no _ (ap not (sym c.is_dummy-busy.ensures ∙ c.if-busy.false))
+    (no _ (cc)
     (no _ (lt-leb _ _ c.if-head-hart.false)
     (no _ (sym c.is_dummy-away.ensures ∙ c.if-away.false)
     (yes _ (ap not (sym c.is_executable-unfit.ensures ∙ c.if-unfit.true)) refl)))))
@@ -50,7 +50,7 @@ unfolding performed tests effect
 returns c =
     no _ (not_no _ c.requires.1)
     (no _ (lt-leb _ _ c.if-head-on.false)
-    (no _ (ap not (sym c.is_dummy-busy.ensures ∙ c.if-busy.false))
+    (no _ (cc)
     (no _ (lt-leb _ _ c.if-head-hart.false)
     (no _ (sym c.is_dummy-away.ensures ∙ c.if-away.false)
     (no _ (ap not (sym c.is_executable-unfit.ensures ∙ c.if-unfit.false))
