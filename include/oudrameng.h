@@ -1,6 +1,6 @@
 /*
  * The hart tables of one confidential VM, as C functions: the entries of the tables and of the flow. They are proved functions of the crate
- * monitor_exports. `tools/build monitor_exports` writes the archive, for x86-64, which needs nothing but the C library's memset.
+ * monitor_exports. `tools/build monitor_exports` writes the archive, for x86-64-v2, which needs nothing but memcpy and memset.
  *
  * A function takes plain numbers and the VM's tables, which the caller lends as five slices, and gives a number: 0 if the request was done,
  * or why it was refused. One VM has n harts (1 to 1,024) on m hardware harts (1 to 64). The slices, in 64-bit words:

@@ -1,7 +1,7 @@
 /*
  * The changes of a hart and the regions on records that the caller lends, as C functions: one hart's record, or a run of region records with
  * its count. They are proved functions of the crates lent_hart and lent_mmio_regions. `tools/build NAME` writes an archive of each, for
- * x86-64, which needs nothing.
+ * x86-64-v2, which needs nothing.
  *
  * A record has the words of a row of oudrameng.h, and a function gives the numbers of that header. No tables stand around a record or a
  * run, so each is judged alone: a hart's record passes with any number in `id`, and none of these is a request to a VM.

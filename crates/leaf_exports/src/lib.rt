@@ -8,7 +8,7 @@ ghost use Rattle.mmio_regions.specs.Table.{region_words, standing, regions_sound
 ghost use Rattle.confidential_hart_remote_command.specs.Command.{well_formed, command_words, from_words as command_of};
 ghost use Rattle.confidential_hart_remote_command.specs.Selection.{selects};
 ghost use Rattle.remote_commands.specs.Queue.{queue_words, queue_well_formed, offer, offered};
-ghost use Rattle.confidential_hart.specs.Hart.{well_formed as hartWellFormed, dummy, reset_hart, boot_hart};
+ghost use Rattle.confidential_hart.specs.Hart.{well_formed as hart_well_formed, dummy, reset_hart, boot_hart};
 ghost use Rattle.hart_rows.specs.HartRows.{hart_words, to_words, from_words};
 ghost use Rattle.confidential_hart.specs.Transition.{after_start, after_suspend, after_stop, after_wake, after_off};
 ghost use Rattle.leaf_exports.specs.LeafAnswers.{answer, of_region, of_addition, of_transition};
@@ -114,7 +114,7 @@ pub extern "C" fn leaf_is_mmio_region_defined(
 #[unsafe(no_mangle)]
 pub extern "C" fn leaf_is_row_well_formed(row: &[u64]) -> bool
     requires { length row.now ≡ hart_words }
-    ensures { result ≡ hartWellFormed (from_words row.now) }
+    ensures { result ≡ hart_well_formed (from_words row.now) }
 {
     hart_rows::is_row_well_formed(row[hart_rows::VM_WORD], row)
 }

@@ -201,12 +201,12 @@ module _ (n : ℕ) (a : Answer) (who : Who) (v : View) where
       (of_hart_next n a who none unchanged (some (wait_for kind x y)) false none none v)
 
   -- every queued command is done
-  pub emptying-next
+  pub emptying_next
       : Same n
       (having (λ h. pick (is_who who (v.stands h) h) (after_doing (v.waits h) (v.hart h)) (v.hart h)) (λ h. pick (is_who who (v.stands h) h) [] (v.waits h)) v)
       (next_view a (emptying who none) v)
   unfolding pick
-  emptying-next =
+  emptying_next =
       same_then
       (record { stands_same = λ h l. refl; hart_same = λ h l. refl; waits_same = λ h l. refl; regions_same = refl; allowed_same = refl })
       (of_hart_next n a who none unchanged none true none none v)

@@ -36,7 +36,7 @@ module _ (l : Log) (e : Entry) (effects : List ℕ) (o : Outcome) where
   unfolding effects_of
   no_records nothing-done did room =
       record {
-        of_hart_lem = λ h b is.
+        of_a_hart = λ h b is.
             subst (λ (cs : List ConfidentialHartRemoteCommand). RecordsOf h cs effects o) (sym (nothing-done h)) (record { did_is = did; room_is = room });
         did_none = λ _. did;
         room_kept = λ _. room;
@@ -48,7 +48,7 @@ module _ (l : Log) (e : Entry) (effects : List ℕ) (o : Outcome) where
       → RecordsAre l e effects o
   own_records g b only y =
       record {
-        of_hart_lem = λ h c is. rw (eqb-true h g (sym (only h c) ∙ is)) y;
+        of_a_hart = λ h c is. rw (eqb-true h g (sym (only h c) ∙ is)) y;
         did_none = λ none. absurd (false≢true (sym none ∙ found));
         room_kept = λ none. absurd (false≢true (sym none ∙ found));
       }

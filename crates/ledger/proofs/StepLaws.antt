@@ -40,7 +40,7 @@ use Rattle.hart_standing.proofs.SentLaws.{delivers_now, allow_holds, add_holds, 
 use Rattle.ledger.specs.Log.{stays, steals, returns, Who, hart_numbered, held_by, says, entry, accepted, refused_with8, is_heard}
 use Rattle.ledger.specs.WorkedOut.{is_who, reachable, receives, done_by}
 use Rattle.ledger.proofs.ReadLaws.{next_standing, reaches, unremoved_none, unremoved_one}
-use Rattle.ledger.proofs.NextLaws.{holds_same, same_then, next_view, every_same, same_regions, saying_next, moving_next, nothing_next, changing_next, waiting_next, emptying-next, resuming_next, broadcasting_next, sending_next}
+use Rattle.ledger.proofs.NextLaws.{holds_same, same_then, next_view, every_same, same_regions, saying_next, moving_next, nothing_next, changing_next, waiting_next, emptying_next, resuming_next, broadcasting_next, sending_next}
 
 -- ---- who gets a command
 
@@ -159,7 +159,7 @@ said_holds (Broadcast k c) t effects s p =
       allowed_same = refl;
     })
     (broadcasting_next (harts t) a (held_by k.0) (view_of t) c))
-said_holds (Process k) t effects s p = holds_same (process_holds k t effects p) (emptying-next (harts t) (effect (Process k) t effects).answer (held_by k.0) (view_of t))
+said_holds (Process k) t effects s p = holds_same (process_holds k t effects p) (emptying_next (harts t) (effect (Process k) t effects).answer (held_by k.0) (view_of t))
 said_holds (Resume k) t effects s p =
     holds_same (resume_holds k t effects p) (resuming_next (harts t) (effect (Resume k) t effects).answer (held_by k.0) (view_of t))
 

@@ -176,7 +176,7 @@ pub record RecordsOf (h : ℕ) (cs : List ConfidentialHartRemoteCommand) (effect
 -- the effect records that the next entry leaves. Process and resume leave those of a queue, and a broadcast that of its sender, also with 8
 pub record RecordsAre (l : Log) (e : Entry) (effects : List ℕ) (o : Outcome) : Type 0 where
   -- an entry about hart h leaves those of what h does, by the log
-  pub of_hart_lem : (h : ℕ) → h < l.setup.harts → about e l.entries h ≡ true → RecordsOf h (does_then e l h) effects o
+  pub of_a_hart : (h : ℕ) → h < l.setup.harts → about e l.entries h ≡ true → RecordsOf h (does_then e l h) effects o
   -- an entry about none of the harts, such as any other refusal, leaves none
   pub did_none : exists (about e l.entries) l.setup.harts ≡ false → o.did ≡ 0
   pub room_kept : exists (about e l.entries) l.setup.harts ≡ false → o.effects ≡ effects

@@ -19,7 +19,7 @@ use Rattle.mmio_regions.specs.Regions.{max_regions, any_overlaps, add_number, wi
 use Rattle.mmio_regions.specs.Table.{region_words, words_of, regions_sound}
 use Rattle.mmio_regions.proofs.RegionLaws.{added_few, added_ordered, removed_few, removed_ordered}
 use Rattle.mmio_regions.proofs.TableLaws as table
-use Rattle.mmio_regions.proofs.SoundLaws as table-sound
+use Rattle.mmio_regions.proofs.SoundLaws as table_sound
 use Rattle.mmio_region_survey.specs.declared.Defined.{Defined}
 use Rattle.lent_mmio_regions.specs.Run.{
   standing,
@@ -139,7 +139,7 @@ module _ (rs : List ConfidentialVmMmioRegion) (count : ℕ) where
       record {
         as_sound = sym (sound_agrees (laid rs count new) (length new))
             ∙ ap (λ (xs : List ℕ). regions_sound xs (length new)) words
-            ∙ table-sound.laid_sound (words_of rs) count (sound_agrees rs count ∙ s) new few upright
+            ∙ table_sound.laid_sound (words_of rs) count (sound_agrees rs count ∙ s) new few upright
             ∙ sym s;
         as_long = simp (length-append, length-replicate, length-drop) (omega (arith, sound_room rs count s, sound_few rs count s));
         past_kept = words_once (drop max_regions (laid rs count new)) (drop max_regions rs)

@@ -11,7 +11,7 @@ use lib.Dec.{eqb}
 use borrow.Author.Tests.{leb-false, not-true}
 use Rattle.error.specs.declared.Error.{Error}
 use Rattle.error.specs.declared.Error.TheVariants.{ReachedMaxNumberOfRemoteCommands, TablesNotSound}
-use Rattle.error.specs.Error.{number_of, done as noError, reached_max_number_of_remote_commands, tables_not_sound, bad_line}
+use Rattle.error.specs.Error.{number_of, done as no_error, reached_max_number_of_remote_commands, tables_not_sound, bad_line}
 use Rattle.table_rows.specs.Rows.{put}
 use Rattle.table_rows.specs.Lists.{all_of}
 use Rattle.table_rows.proofs.PickLaws.{by_test, by_pick}
@@ -200,7 +200,7 @@ promised_given q t p = ap (λ (o : Outcome). given o.answer) p
 -- by the trace program alone
 abbrev pub of_test : Error → Bool
 of_test e =
-    not (eqb (number_of e) noError)
+    not (eqb (number_of e) no_error)
     && not (eqb (number_of e) reached_max_number_of_remote_commands)
     && not (eqb (number_of e) tables_not_sound)
     && not (eqb (number_of e) bad_line)

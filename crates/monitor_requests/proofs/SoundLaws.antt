@@ -350,7 +350,7 @@ sound_sentences t s =
       few_harts = z.few_harts;
       some_hardware = z.some_hardware;
       few_hardware = z.few_hardware;
-      long_enough_lem = z.long;
+      tables_long = z.long;
       home_record = home_formed t s;
       home_real = λ h l d.
           row_own the_vm t.home t.hardware (hardware_harts t) h (f.home_row_lem h l) (real_vm (home_hart t h) (home_formed t s h l) d);
@@ -411,7 +411,7 @@ module _ (t : Tables) (p : SoundBySentence t) where
           some_hardware = p.some_hardware;
           few_hardware = p.few_hardware;
           few_regions = (regions.sound_sized t.regions (region_count t) p.regions_record).few;
-          long = p.long_enough_lem;
+          long = p.tables_long;
         };
         home_row_lem = sentence_home;
         hardware_row_lem = sentence_hardware;

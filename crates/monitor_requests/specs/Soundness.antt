@@ -32,7 +32,7 @@ pub record SoundBySentence (t : Tables) : Type 0 where
   pub some_hardware : 1 ≤ hardware_harts t
   pub few_hardware : hardware_harts t ≤ max_hardware_harts
   -- the tables are long enough: n home rows, m hardware rows, n queues of 64, always 1,024 regions
-  pub long_enough_lem : Long t (harts t) (hardware_harts t)
+  pub tables_long : Long t (harts t) (hardware_harts t)
   -- the record of a home row is as it must be; a real one is that of the row's hart, and a dummy is that of one of the m hardware harts
   pub home_record : (h : ℕ) → h < harts t → well_formed (home_hart t h) ≡ true
   pub home_real : (h : ℕ) → h < harts t → is_dummy (home_hart t h) ≡ false → (home_hart t h).id ≡ h

@@ -18,9 +18,9 @@ table =
     ∷ (4 ∷ 5 ∷ 6 ∷ 7 ∷ 3 ∷ [])
     ∷ []
 
-whole-table : follows table ≡ true
+whole_table : follows table ≡ true
 unfolding follows every only pick
-whole-table = refl
+whole_table = refl
 
 pub returns : goal.returns
-returns c = follows_at table whole-table c.args.state c.args.change (search rules) (search rules)
+returns c = follows_at table whole_table c.args.state c.args.change (search rules) (search rules)

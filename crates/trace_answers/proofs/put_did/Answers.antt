@@ -12,20 +12,20 @@ use Rattle.trace_answers.proofs.PrintedLaws.{word_did, record_most}
 use Rattle.trace_answers.proofs.put_did.Goals as goal
 
 -- the numbers of a record that is lent as a part
-part-most : (effects : List ℕ) (i : ℕ)
+part_most : (effects : List ℕ) (i : ℕ)
     → length (numbers (take (i * effect_words + effect_words - i * effect_words) (drop (i * effect_words) effects))) ≤ 147
-part-most effects i = rw (part_row effect_words effects i) (record_most effects i)
+part_most effects i = rw (part_row effect_words effects i) (record_most effects i)
 
 pub put_word-place-requires : goal.put_word-place-requires
 put_word-place-requires c = omega (arith, ap length word_did)
 
 pub put_numbers-end-requires : goal.put_numbers-end-requires
 put_numbers-end-requires c =
-    omega (arith, ap length word_did, part-most c.args.effects.now c.args.i)
+    omega (arith, ap length word_did, part_most c.args.effects.now c.args.i)
 
 pub put_byte-requires : goal.put_byte-requires
 put_byte-requires c =
-    omega (arith, ap length word_did, part-most c.args.effects.now c.args.i)
+    omega (arith, ap length word_did, part_most c.args.effects.now c.args.i)
 
 pub returns : goal.returns
 returns c =

@@ -17,14 +17,14 @@ pub overflow_sub-place : goal.overflow_sub-place
 overflow_sub-place c = omega (arith, digits_some c.args.base c.args.nought 19 c.loop-left.left)
 
 -- a digit is below the base
-digit-fits : (left base : ℕ) → 10 ≤ base → left % base < base
-digit-fits left base ten = mod-lt left (omega arith)
+digit_fits : (left base : ℕ) → 10 ≤ base → left % base < base
+digit_fits left base ten = mod-lt left (omega arith)
 
 pub overflow_cast-out : goal.overflow_cast-out
-overflow_cast-out c = omega (arith, digit-fits c.loop-left.left c.args.base (omega arith))
+overflow_cast-out c = omega (arith, digit_fits c.loop-left.left c.args.base (omega arith))
 
 pub overflow_add-out : goal.overflow_add-out
-overflow_add-out c = omega (arith, digit-fits c.loop-left.left c.args.base (omega arith))
+overflow_add-out c = omega (arith, digit_fits c.loop-left.left c.args.base (omega arith))
 
 pub bounds-out-place : goal.bounds-out-place
 bounds-out-place c = omega (arith, digits_some c.args.base c.args.nought 19 c.loop-left.left)
