@@ -7,6 +7,8 @@
 ghost use Rattle.std.specs.Prelude.{◌≡◌, ◌<◌, eqb};
 ghost use Rattle.bits.specs.Bit.{bit, clear_bit, set_bit};
 
+// Each of the three asks that there is such a bit. A type for the numbers below 64 would be made at each call, and be no plainer.
+
 // Whether a bit of a register is 1.
 pub fn is_bit_enabled(register: u64, index: u64) -> bool
     requires { index < 64 }

@@ -1,3 +1,2 @@
 -- What belongs to no one function of `confidential_flow`.
-pub mod AwaitLaws
 pub mod ResumeLaws

@@ -6,7 +6,7 @@ use mathlib.Core.List.{List, []}
 use Rattle.confidential_hart_remote_command.specs.declared.ConfidentialHartRemoteCommand.{ConfidentialHartRemoteCommand}
 use Rattle.confidential_hart_remote_command.specs.Command.{well_formed}
 use Rattle.held_hart.proofs.HeldLaws.{DidOwn}
-use Rattle.monitor_requests.specs.declared.Answer.{Answer}
+use Rattle.monitor_requests.specs.Answers.{Answered}
 use Rattle.monitor_requests.specs.declared.Request.TheVariants.{Send}
 use Rattle.monitor_requests.specs.Tables.{Tables, hardware_harts, sound, Sized}
 use Rattle.monitor_requests.specs.Requests.{Outcome, answering, with_hardware, with_queues, performed, outcome, broadcasts, held_id}
@@ -23,7 +23,7 @@ module _ (t : Tables) (k : ℕ) (c : ConfidentialHartRemoteCommand) (h : ℕ) (r
       (sound_sized _ still, still)
 
   -- their outcome, with what was done before
-  pub sent_is : sound t ≡ true → k < hardware_harts t → well_formed c ≡ true → h ≡ held_id t k → {r : Answer} {queues : List ℕ}
+  pub sent_is : sound t ≡ true → k < hardware_harts t → well_formed c ≡ true → h ≡ held_id t k → {r : Answered} {queues : List ℕ}
       → answering r (with_queues queues (with_hardware rows t)) [] ≡ performed (Send h c) (with_hardware rows t) []
       → outcome r did (with_queues queues (with_hardware rows t)) written ≡ broadcasts c k (held_id t k) t room
   sent_is s there formed named e =

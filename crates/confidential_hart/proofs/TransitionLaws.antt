@@ -1,21 +1,23 @@
 -- What a transition gives, case by case, and what it keeps. Assumes nothing.
 use Prim.Native.Nat.{ℕ, ◌≤◌, ◌<◌}
-use mathlib.Core.Path.{◌≡◌, refl, ◌∙◌}
+use mathlib.Core.Path.{◌≡◌, refl, sym}
 use mathlib.Core.Logic.{◌≢◌}
 use mathlib.Core.Bool.{Bool, true, false, not}
 use mathlib.Core.List.{List}
 use native.Mathlib.Omega.{arith}
 use lib.ListN.{length}
 use borrow.Author.Tests.{eqb-false}
-use Rattle.error.specs.Error.{done, tables_not_sound}
+use Rattle.std.specs.Prelude.{Result, Ok, Err}
+use Rattle.error.specs.declared.Error.{Error}
+use Rattle.error.specs.Error.{number_of, done, tables_not_sound}
 use Rattle.table_rows.specs.Choice.{pick}
 use Rattle.confidential_hart.specs.declared.ConfidentialHart.{ConfidentialHart}
-use Rattle.confidential_hart.specs.declared.Transition.{Transition}
 use Rattle.confidential_hart.specs.Hart.{no_vm, is_dummy, well_formed}
-use Rattle.hart_lifecycle_state.specs.Lifecycle.{powered_off, Entry, becomes, refused, change_of, entry_number}
-use Rattle.confidential_hart.specs.Transition.{refusal, moved, moves, applied, transition}
+use Rattle.hart_lifecycle_state.specs.declared.HartLifecycleState.{HartLifecycleState}
+use Rattle.hart_lifecycle_state.specs.Lifecycle.{state_number, entry_of, powered_off, Entry, becomes, refused, entry_number}
+use Rattle.confidential_hart.specs.Transition.{Transition, turned, refusal, moved, moves, applied, transition}
 use Rattle.confidential_hart.proofs.HartLaws.{WellFormed, formed_facts, facts_formed}
-use Rattle.hart_lifecycle_state.proofs.LifecycleLaws.{Told, told}
+use Rattle.hart_lifecycle_state.proofs.LifecycleLaws.{Told}
 
 -- ---- the four outcomes
 
@@ -63,6 +65,11 @@ module _ (change : ℕ → Entry) (idle : ℕ) (g : List ℕ) (h : ConfidentialH
     pub moves_is : is_dummy h ≡ false → (s : ℕ) → change h.lifecycle ≡ becomes s → transition change idle g h ≡ moves s g h
     unfolding transition pick applied
     moves_is d s e = rw (w, d, e)
+
+    -- where the state that the change leads to is known as a result
+    pub turned_is : is_dummy h ≡ false → (r : Result HartLifecycleState Error) → entry_of r ≡ change h.lifecycle → turned g h r ≡ transition change idle g h
+    turned_is d (Ok state) e = sym (moves_is d (state_number state) (sym e))
+    turned_is d (Err error) e = sym (refused_is d (number_of error) (sym e))
 
 -- ---- what a transition keeps, and when it is done
 
@@ -113,15 +120,6 @@ module _ (change : ℕ → Entry) (idle : ℕ) (h : ConfidentialHart) where
       (λ w d n e g l. refl)
       (λ w d s e g l. l)
 
-  -- and the same registers, where the change leaves the same
-  pub transition_registers : (transition change idle h.registers h).hart.registers ≡ h.registers
-  transition_registers =
-      by_outcome h (λ t. (t h.registers).hart.registers ≡ h.registers) change idle
-      (λ w. refl)
-      (λ w d. refl)
-      (λ w d n e. refl)
-      (λ w d s e. refl)
-
   -- a refusal gives the record back as it came
   pub refusal_keeps : (g : List ℕ) → (transition change idle g h).number ≢ done → (transition change idle g h).hart ≡ h
   refusal_keeps =
@@ -130,15 +128,6 @@ module _ (change : ℕ → Entry) (idle : ℕ) (h : ConfidentialHart) where
       (λ w d g ne. refl)
       (λ w d n e g ne. refl)
       (λ w d s e g ne. absurd (ne refl))
-
-  -- so it does not hang on the registers that the change would have left
-  pub refusal_alike : (g k : List ℕ) → (transition change idle g h).number ≢ done → transition change idle g h ≡ transition change idle k h
-  refusal_alike =
-      by_outcome h (λ t. (g k : List ℕ) → (t g).number ≢ done → t g ≡ t k) change idle
-      (λ w g k ne. refl)
-      (λ w d g k ne. refl)
-      (λ w d n e g k ne. refl)
-      (λ w d s e g k ne. absurd (ne refl))
 
   module _ (t : Told (change h.lifecycle)) where
     pub transition_formed : (g : List ℕ) → well_formed h ≡ true → well_formed (transition change idle g h).hart ≡ true
@@ -150,16 +139,6 @@ module _ (change : ℕ → Entry) (idle : ℕ) (h : ConfidentialHart) where
         (λ w d s e g f. moved_formed h s g w d (rw e at t))
 
     module _ (ne : idle ≢ done) where
-      -- a change that is done with some registers is done with any
-      pub done_alike : (g k : List ℕ) → (transition change idle g h).number ≡ done
-          → moves (transition change idle g h).hart.lifecycle k (transition change idle g h).hart ≡ transition change idle k h
-      done_alike =
-          by_outcome h (λ t. (g k : List ℕ) → (t g).number ≡ done → moves (t g).hart.lifecycle k (t g).hart ≡ t k) change idle
-          (λ w g k z. absurd (omega arith))
-          (λ w d g k z. absurd (ne z))
-          (λ w d n e g k z. let l : powered_off < n = rw e at t in absurd (omega arith))
-          (λ w d s e g k z. refl)
-
       -- what is done is what the table says, of a record that is well formed and a real hart's
       pub done_moves : (g : List ℕ) → (transition change idle g h).number ≡ done
           → transition change idle g h ≡ moves (entry_number (change h.lifecycle)) g h
@@ -185,37 +164,3 @@ module _ (change : ℕ → Entry) (idle : ℕ) (h : ConfidentialHart) where
           (λ w d g z. absurd (ne z))
           (λ w d n e g z. d)
           (λ w d s e g z. d)
-
--- ---- the code's steps
-
--- the table's number tells whether it refuses
-module _ (c : ℕ) (g : List ℕ) (h : ConfidentialHart) (n : ℕ) (is : n ≡ entry_number (change_of c h.lifecycle)) where
-  refuses_by : (e : Entry) → Told e → n ≡ entry_number e → powered_off < n → refusal n h ≡ applied e g h
-  unfolding applied
-  refuses_by (becomes state) t q l = absurd (omega arith)
-  refuses_by (refused number) t q l = rw q
-
-  becomes_by : (e : Entry) → Told e → n ≡ entry_number e → n ≤ powered_off → moves n g h ≡ applied e g h
-  unfolding applied
-  becomes_by (becomes state) t q l = rw q
-  becomes_by (refused number) t q l = absurd (omega arith)
-
-  pub number_refuses : powered_off < n → refusal n h ≡ applied (change_of c h.lifecycle) g h
-  number_refuses = refuses_by (change_of c h.lifecycle) (told c h.lifecycle) is
-
-  pub number_becomes : n ≤ powered_off → moves n g h ≡ applied (change_of c h.lifecycle) g h
-  number_becomes = becomes_by (change_of c h.lifecycle) (told c h.lifecycle) is
-
--- a step by the table alone, from which start and wake go on
-module _ (c idle : ℕ) (ne : idle ≢ done) (h : ConfidentialHart) (t : Transition) (is : t ≡ transition (change_of c) idle h.registers h) where
-  pub step_refused : t.number ≢ done → (k : List ℕ) → t ≡ transition (change_of c) idle k h
-  step_refused n k = is ∙ refusal_alike (change_of c) idle h h.registers k (rw is at n)
-
-  pub step_id : t.hart.id ≡ h.id
-  step_id = rw is (transition_keeps (change_of c) idle h h.registers).id_kept
-
-  pub step_registers : t.hart.registers ≡ h.registers
-  step_registers = rw is (transition_registers (change_of c) idle h)
-
-  pub step_done : t.number ≡ done → (g k : List ℕ) → g ≡ k → moves t.hart.lifecycle g t.hart ≡ transition (change_of c) idle k h
-  step_done z g k q = rw (q, is) (done_alike (change_of c) idle h (told c h.lifecycle) ne h.registers k (rw is at z))

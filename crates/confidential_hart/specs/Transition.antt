@@ -1,12 +1,18 @@
 -- What the five changes of a lifecycle give: a number, and the record.
-use Rattle.std.specs.Prelude.{ℕ, not, List}
-use Rattle.error.specs.Error.{done, hart_already_running, tables_not_sound, hardware_hart_idle}
+use Rattle.std.specs.Prelude.{ℕ, not, List, Result, Ok, Err}
+use Rattle.error.specs.declared.Error.{Error}
+use Rattle.error.specs.Error.{number_of, done, hart_already_running, tables_not_sound, hardware_hart_idle}
 use Rattle.table_rows.specs.Choice.{pick}
 use Rattle.confidential_hart.specs.declared.ConfidentialHart.{ConfidentialHart}
-use Rattle.confidential_hart.specs.declared.Transition.{Transition}
 use Rattle.confidential_hart.specs.Hart.{hart_of, is_dummy, well_formed}
-use Rattle.hart_lifecycle_state.specs.Lifecycle.{Entry, becomes, refused, start, suspend, stop, wake, off}
+use Rattle.hart_lifecycle_state.specs.declared.HartLifecycleState.{HartLifecycleState}
+use Rattle.hart_lifecycle_state.specs.Lifecycle.{state_number, Entry, becomes, refused, start, suspend, stop, wake, off}
 use Rattle.confidential_hart.specs.HartStart.{start_registers, wake_registers}
+
+-- a number, and the record
+pub record Transition : Type 0 where
+  pub number : ℕ
+  pub hart : ConfidentialHart
 
 -- a refusal gives the record back as it came
 abbrev pub refusal : ℕ → ConfidentialHart → Transition
@@ -19,6 +25,16 @@ moved state registers h = hart_of h.vm h.id state h.operation h.x h.y registers
 -- a change that is done
 abbrev pub moves : ℕ → List ℕ → ConfidentialHart → Transition
 moves state registers h = record { number = done; hart = moved state registers h }
+
+-- a change of the record as the code tells it: done with another record, or refused with the record as it came
+abbrev pub stepped : ConfidentialHart → Result ConfidentialHart Error → Transition
+stepped h (Ok after) = record { number = done; hart = after }
+stepped h (Err e) = refusal (number_of e) h
+
+-- the state that a change leads to as the code tells it, in the record with new registers; or refused as above
+abbrev pub turned : List ℕ → ConfidentialHart → Result HartLifecycleState Error → Transition
+turned registers h (Ok state) = moves (state_number state) registers h
+turned registers h (Err e) = refusal (number_of e) h
 
 -- what the table says is done, with the registers that the change leaves
 unfoldable pub applied : Entry → List ℕ → ConfidentialHart → Transition

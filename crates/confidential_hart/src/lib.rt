@@ -5,12 +5,15 @@
 // has the six registers that the hart tables need, and each transition is a step by value.
 #![tactic(auto)]
 
-ghost use Rattle.std.specs.Prelude.{◌≡◌, ◌<◌, length};
+ghost use Rattle.std.specs.Prelude.{◌≡◌, ℕ, List};
+ghost use Rattle.error.specs.Error.{number_of};
 ghost use Rattle.confidential_hart.specs.Hart.{no_operation, hart_of, is_dummy, with_operation, well_formed, dummy, reset_hart, boot_hart};
-ghost use Rattle.hart_lifecycle_state.specs.Lifecycle.{changes, change_of};
-ghost use Rattle.confidential_hart.specs.Transition.{transition, after_start, after_suspend, after_stop, after_wake, after_off};
+ghost use Rattle.hart_lifecycle_state.specs.Lifecycle.{change_of};
+ghost use Rattle.confidential_hart.specs.Transition.{stepped, turned, transition, after_start, after_suspend, after_stop, after_wake, after_off};
 
-use hart_lifecycle_state::{OFF, POWERED_OFF, START, STARTED, STOP, STOPPED, SUSPEND, WAKE};
+use error::Error;
+use hart_lifecycle_state::LifecycleChange::{Off, Start, Stop, Suspend, Wake};
+use hart_lifecycle_state::{HartLifecycleState, LifecycleChange, POWERED_OFF, STARTED, STOPPED};
 
 // How many registers are saved.
 pub const REGISTERS: usize = 6;
@@ -51,7 +54,7 @@ pub const NO_VM: u64 = 0;
 
 pub const VM: u64 = 1;
 
-// No operation that a hart waits for, and the last of the kinds there are.
+// No operation that a hart waits for, and the last of the kinds there are: numbers, since any may stand in a record.
 pub const NO_OPERATION: u64 = 0;
 
 pub const LAST_OPERATION: u64 = 5;
@@ -63,7 +66,8 @@ pub struct ConfidentialHartId(pub u64);
 #[derive(Clone, Copy)]
 pub struct HardwareHartId(pub u64);
 
-// A confidential hart of the VM, or the dummy of a hardware hart: `vm` is 1 or, of a dummy, 0.
+// A confidential hart of the VM, or the dummy of a hardware hart: `vm` is 1 or, of a dummy, 0. The C interface has this record, with any
+// numbers in it, so its VM, its lifecycle and its operation are numbers.
 #[repr(C)]
 #[derive(Clone, Copy)]
 pub struct ConfidentialHart {
@@ -76,15 +80,8 @@ pub struct ConfidentialHart {
     pub registers: [u64; REGISTERS],
 }
 
-// What a transition gives: a number, and the record.
-#[derive(Clone, Copy)]
-pub struct Transition {
-    pub number: u64,
-    pub hart: ConfidentialHart,
-}
-
 // Whether a record of these parts is as it must be. Any number passes, so the contract has 0 in its place. No test waits for another, which
-// is faster than `&&`.
+// is faster than `&&`. It takes parts and no record, since `hart_rows` reads a row's words in their place, which is faster too.
 pub fn are_parts_well_formed(
     vm: u64,
     lifecycle: u64,
@@ -165,58 +162,39 @@ impl ConfidentialHart {
     pub fn is_well_formed(self) -> bool
         ensures { result ≡ well_formed self }
     {
-        let registers = self.registers;
         are_parts_well_formed(
             self.vm,
             self.lifecycle,
             self.operation,
             self.x,
             self.y,
-            &registers,
+            &self.registers,
         )
     }
 
-    // The checks of a change in their order, and the change of the lifecycle by the table. `idle` is the number for a dummy.
-    fn change(mut self, change: u64, idle: u64) -> Transition
-        requires { change < length changes }
-        ensures { result ≡ transition (change_of change) idle self.registers self }
+    // The checks of a change in their order, and the state that it leads to. `idle` refuses a dummy.
+    fn change(self, change: LifecycleChange, idle: Error) -> Result<HartLifecycleState, Error>
+        ensures { (registers : List ℕ) → turned registers self result ≡ transition (change_of change) (number_of idle) registers self }
     {
-        let malformed = !self.is_well_formed();
-        if malformed {
-            return Transition {
-                number: error::TABLES_NOT_SOUND,
-                hart: self,
-            };
+        if !self.is_well_formed() {
+            return Err(Error::TablesNotSound);
         }
         if self.is_dummy() {
-            return Transition {
-                number: idle,
-                hart: self,
-            };
+            return Err(idle);
         }
-        let entry = hart_lifecycle_state::lifecycle_change(self.lifecycle, change);
-        if entry > POWERED_OFF {
-            return Transition {
-                number: entry,
-                hart: self,
-            };
-        }
-        self.lifecycle = entry;
-        Transition {
-            number: error::DONE,
-            hart: self,
-        }
+        HartLifecycleState::try_from(self.lifecycle)?.after(change)
     }
 
-    // Starts a stopped hart, as SBI's hart start has it: at an address, with no address translation and interrupts off.
-    pub fn transition_from_stopped_to_started(mut self, address: u64, opaque: u64) -> Transition
-        ensures { result ≡ after_start address opaque self }
+    // Starts a stopped hart, as SBI's hart start has it: at an address, with no address translation and interrupts off. The address and the
+    // opaque number go on one by one wherever a request has them, as in the Rust's methods.
+    pub fn transition_from_stopped_to_started(
+        mut self,
+        address: u64,
+        opaque: u64,
+    ) -> Result<ConfidentialHart, Error>
+        ensures { stepped self result ≡ after_start address opaque self }
     {
-        let step = self.change(START, error::HART_ALREADY_RUNNING);
-        if step.number != error::DONE {
-            return step;
-        }
-        self = step.hart;
+        self.lifecycle = self.change(Start, Error::HartAlreadyRunning)?.into();
         let mstatus = bits::disable_bit(self.registers[MSTATUS], CSR_MSTATUS_SPIE);
         let vsstatus = self.registers[VSSTATUS];
         self.registers[VSATP] = 0;
@@ -225,48 +203,45 @@ impl ConfidentialHart {
         self.registers[A0] = self.id;
         self.registers[A1] = opaque;
         self.registers[MEPC] = address;
-        Transition {
-            number: error::DONE,
-            hart: self,
-        }
+        Ok(self)
     }
 
-    // Suspends a started hart.
-    pub fn transition_from_started_to_suspended(mut self) -> Transition
-        ensures { result ≡ after_suspend self }
+    // Suspends a started hart. This, a stop and a power-off are one call of `change` each.
+    pub fn transition_from_started_to_suspended(mut self) -> Result<ConfidentialHart, Error>
+        ensures { stepped self result ≡ after_suspend self }
     {
-        self.change(SUSPEND, error::HARDWARE_HART_IDLE)
+        self.lifecycle = self.change(Suspend, Error::HardwareHartIdle)?.into();
+        Ok(self)
     }
 
     // Stops a started hart.
-    pub fn transition_from_started_to_stopped(mut self) -> Transition
-        ensures { result ≡ after_stop self }
+    pub fn transition_from_started_to_stopped(mut self) -> Result<ConfidentialHart, Error>
+        ensures { stepped self result ≡ after_stop self }
     {
-        self.change(STOP, error::HARDWARE_HART_IDLE)
+        self.lifecycle = self.change(Stop, Error::HardwareHartIdle)?.into();
+        Ok(self)
     }
 
     // Wakes a suspended hart at an address.
-    pub fn transition_from_suspended_to_started(mut self, address: u64, opaque: u64) -> Transition
-        ensures { result ≡ after_wake address opaque self }
+    pub fn transition_from_suspended_to_started(
+        mut self,
+        address: u64,
+        opaque: u64,
+    ) -> Result<ConfidentialHart, Error>
+        ensures { stepped self result ≡ after_wake address opaque self }
     {
-        let step = self.change(WAKE, error::HARDWARE_HART_IDLE);
-        if step.number != error::DONE {
-            return step;
-        }
-        self = step.hart;
+        self.lifecycle = self.change(Wake, Error::HardwareHartIdle)?.into();
         self.registers[A1] = opaque;
         self.registers[MEPC] = address;
-        Transition {
-            number: error::DONE,
-            hart: self,
-        }
+        Ok(self)
     }
 
     // Powers a hart off, whatever its state.
-    pub fn transition_to_shutdown(mut self) -> Transition
-        ensures { result ≡ after_off self }
+    pub fn transition_to_shutdown(mut self) -> Result<ConfidentialHart, Error>
+        ensures { stepped self result ≡ after_off self }
     {
-        self.change(OFF, error::HARDWARE_HART_IDLE)
+        self.lifecycle = self.change(Off, Error::HardwareHartIdle)?.into();
+        Ok(self)
     }
 
     // Sets the operation that the hart waits for, whatever stood there: who asks has seen that none is pending.

@@ -12,7 +12,7 @@ ghost use Rattle.confidential_hart_remote_command.specs.Selection.{selects};
 // The words of a command.
 pub const COMMAND_WORDS: usize = 6;
 
-// The kinds of commands.
+// The kinds of commands. A kind is a number and no enum, since any number may stand in a table and be asked for; `is_well_formed` judges it.
 pub const IPI: u64 = 1;
 
 pub const REMOTE_FENCE_I: u64 = 2;
@@ -31,7 +31,7 @@ pub const XLEN: u64 = 64;
 pub const ALL_HARTS: u64 = 0xffff_ffff_ffff_ffff;
 
 // A command that is to be done by confidential harts: what to do, for which harts, and on what.
-#[derive(Clone, Copy)]
+#[derive(Clone, Copy, PartialEq, Eq)]
 pub struct ConfidentialHartRemoteCommand {
     pub kind: u64,
     pub mask: u64,
@@ -54,20 +54,6 @@ impl ConfidentialHartRemoteCommand {
         (IPI <= self.kind) & (self.kind <= SHUTDOWN_REQUEST) & (unused == 0)
     }
 
-    // Whether all six numbers are equal. The mask goes first: it tells most commands apart.
-    pub fn eq(self, other: ConfidentialHartRemoteCommand) -> bool
-        ensures { result ≡ same self other }
-    {
-        if self.mask != other.mask {
-            return false;
-        }
-        (self.kind == other.kind)
-            & (self.base == other.base)
-            & (self.start == other.start)
-            & (self.size == other.size)
-            & (self.tag == other.tag)
-    }
-
     // Whether the command is for a hart.
     pub fn is_hart_selected(self, hart: u64) -> bool
         ensures { result ≡ selects self hart }
@@ -88,18 +74,22 @@ impl ConfidentialHartRemoteCommand {
         bits::is_bit_enabled(self.mask, index)
     }
 
-    // The command that six words hold.
+    // The command that six words hold. The words are a part of a lent table and no array, so this and the next are no `From`: a caller would
+    // first have to make an array of them.
     pub fn from_words(words: &[u64]) -> ConfidentialHartRemoteCommand
         requires { length words.now ≡ command_words }
         ensures { result ≡ from_words words.now }
     {
+        let &[kind, mask, base, start, size, tag] = words else {
+            unreachable!()
+        };
         ConfidentialHartRemoteCommand {
-            kind: words[0],
-            mask: words[1],
-            base: words[2],
-            start: words[3],
-            size: words[4],
-            tag: words[5],
+            kind,
+            mask,
+            base,
+            start,
+            size,
+            tag,
         }
     }
 
@@ -108,12 +98,9 @@ impl ConfidentialHartRemoteCommand {
         requires { length words.old ≡ command_words }
         ensures { words.new ≡ to_words self }
     {
-        words[0] = self.kind;
-        words[1] = self.mask;
-        words[2] = self.base;
-        words[3] = self.start;
-        words[4] = self.size;
-        words[5] = self.tag;
+        words.copy_from_slice(&[
+            self.kind, self.mask, self.base, self.start, self.size, self.tag,
+        ]);
     }
 }
 
@@ -121,8 +108,5 @@ impl ConfidentialHartRemoteCommand {
 fn only(test: bool, x: u64) -> u64
     ensures { result ≡ pick test x 0 }
 {
-    if test {
-        return x;
-    }
-    0
+    if test { x } else { 0 }
 }

@@ -1,9 +1,9 @@
 -- A region, and when two overlap or one contains the other.
-use Rattle.std.specs.Prelude.{ℕ, ◌+◌, ◌-◌, ◌^◌, Bool, ◌&&◌, leb, ltb}
-use Rattle.error.specs.Error.{done, end_too_large}
+use Rattle.std.specs.Prelude.{ℕ, ◌+◌, ◌-◌, ◌^◌, Bool, ◌&&◌, Result, Ok, Err, leb, ltb}
+use Rattle.error.specs.declared.Error.{Error}
+use Rattle.error.specs.declared.Error.TheVariants.{EndTooLarge}
 use Rattle.table_rows.specs.Choice.{pick}
 use Rattle.confidential_vm_mmio_region.specs.declared.ConfidentialVmMmioRegion.{ConfidentialVmMmioRegion}
-use Rattle.confidential_vm_mmio_region.specs.declared.NewRegion.{NewRegion}
 
 -- the largest end
 abbrev pub max_end : ℕ
@@ -17,12 +17,9 @@ region_of base end = record { base = base; end = end }
 abbrev pub region_from : ℕ → ℕ → ConfidentialVmMmioRegion
 region_from base size = region_of base (base + size)
 
--- the same where its end is not too large; else 11 and an empty region
-unfoldable pub new_region : ℕ → ℕ → NewRegion
-new_region start size =
-    pick (ltb max_end (start + size))
-    (record { number = end_too_large; region = region_of 0 0 })
-    (record { number = done; region = region_from start size })
+-- the same where its end is not too large; else 11
+unfoldable pub new_region : ℕ → ℕ → Result ConfidentialVmMmioRegion Error
+new_region start size = pick (ltb max_end (start + size)) (Err EndTooLarge) (Ok (region_from start size))
 
 -- each base is below the other's end
 abbrev pub overlaps : ConfidentialVmMmioRegion → ConfidentialVmMmioRegion → Bool

@@ -7,42 +7,23 @@
 ghost use Rattle.std.specs.Prelude.{◌≡◌};
 ghost use Rattle.confidential_vm_mmio_region.specs.Region.{new_region, overlaps, contains};
 
-// The largest end of a region.
-pub const MAX_END: u64 = 0xffff_ffff_ffff_ffff;
+use error::Error;
 
-// A range of guest physical addresses: its base and one past its end.
+// A range of guest physical addresses: its base and one past its end. The default is the empty range at 0.
 #[repr(C)]
-#[derive(Clone, Copy)]
+#[derive(Clone, Copy, Default)]
 pub struct ConfidentialVmMmioRegion {
     pub base: u64,
     pub end: u64,
 }
 
-// A region with number 0, or the number that refuses it and an empty region.
-#[derive(Clone, Copy)]
-pub struct NewRegion {
-    pub number: u64,
-    pub region: ConfidentialVmMmioRegion,
-}
-
 impl ConfidentialVmMmioRegion {
     // The region of `size` addresses from `start` on. An end above the largest is refused, so that nothing wraps.
-    pub fn new(start: u64, size: u64) -> NewRegion
+    pub fn new(start: u64, size: u64) -> Result<ConfidentialVmMmioRegion, Error>
         ensures { result ≡ new_region start size }
     {
-        if MAX_END - start < size {
-            return NewRegion {
-                number: error::END_TOO_LARGE,
-                region: ConfidentialVmMmioRegion { base: 0, end: 0 },
-            };
-        }
-        NewRegion {
-            number: error::DONE,
-            region: ConfidentialVmMmioRegion {
-                base: start,
-                end: start + size,
-            },
-        }
+        let end = start.checked_add(size).ok_or(Error::EndTooLarge)?;
+        Ok(ConfidentialVmMmioRegion { base: start, end })
     }
 
     // Whether each base is below the other's end.

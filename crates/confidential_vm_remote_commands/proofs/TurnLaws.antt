@@ -10,11 +10,12 @@ use lib.ListN.{length, take, drop}
 use lib.Dec.{leb}
 use borrow.Author.Tests.{le-leb, lt-leb}
 use borrow.Rule.Slice.PartMut.{put_mid}
-use Rattle.error.specs.Error.{done}
+use Rattle.std.proofs.Common.{Result, Ok, Err}
+use Rattle.error.specs.declared.Error.{Error}
 use Rattle.error.specs.declared.Error.TheVariants.{ReachedMaxNumberOfRemoteCommands}
 use Rattle.table_rows.specs.Rows.{row, put}
 use Rattle.table_rows.specs.Choice.{pick}
-use Rattle.table_rows.proofs.PickLaws.{yes, no}
+use Rattle.table_rows.proofs.PickLaws.{yes, no, not_yes, not_no}
 use Rattle.table_rows.proofs.PartLaws.{part_row, part_put}
 use Rattle.table_rows.proofs.RowLaws.{put_row}
 use Rattle.confidential_hart_remote_command.specs.declared.ConfidentialHartRemoteCommand.{ConfidentialHartRemoteCommand}
@@ -22,23 +23,23 @@ use Rattle.remote_commands.specs.Queue as Queue
 use Rattle.remote_commands.specs.Queue.{max_commands, queue_words, count, offered}
 use Rattle.remote_commands.proofs.OfferLaws.{by_offer}
 use Rattle.hart_rows.specs.HartRows.{hart_at}
-use Rattle.monitor_requests.specs.declared.Answer.{Answer}
-use Rattle.monitor_requests.specs.declared.Answer.TheVariants.{Refused, Mask}
-use Rattle.monitor_requests.proofs.AnswerLaws.{is_mask, first_in, no_mask}
-use Rattle.monitor_requests.specs.Requests.{receives, interrupting, Delivery, delivery, deliver}
+use Rattle.monitor_requests.specs.Answers.{Answered}
+use Rattle.monitor_requests.specs.declared.Answer.TheVariants.{Mask}
+use Rattle.monitor_requests.proofs.AnswerLaws.{is_mask, first_in}
+use Rattle.monitor_requests.specs.Requests.{receives, interrupting, Delivery, delivery, masked, deliver}
 
--- ---- an offer's number tells whether the queue was full
+-- ---- whether an offer is refused tells whether the queue was full
 
 module _ (q : List ℕ) (c : ConfidentialHartRemoteCommand) where
-  full_number : (offered q c).number ≢ done → (leb max_commands (count q) ≡ true) × ((offered q c).queue ≡ q)
-  full_number =
-      by_offer q c (λ o. o.number ≢ done → (leb max_commands (count q) ≡ true) × (o.queue ≡ q))
-      (λ l ne. (le-leb _ _ l, refl)) (λ l e ne. absurd (ne refl)) (λ l e ne. absurd (ne refl))
+  full_given : (e : Error) → (offered q c).given ≡ Err e → (leb max_commands (count q) ≡ true) × ((offered q c).queue ≡ q) × (e ≡ ReachedMaxNumberOfRemoteCommands)
+  full_given e =
+      by_offer q c (λ o. o.given ≡ Err e → (leb max_commands (count q) ≡ true) × (o.queue ≡ q) × (e ≡ ReachedMaxNumberOfRemoteCommands))
+      (λ l r. (le-leb _ _ l, refl, cc)) (λ l _ r. absurd cc) (λ l _ r. absurd cc)
 
-  room_number : (offered q c).number ≡ done → leb max_commands (count q) ≡ false
-  room_number =
-      by_offer q c (λ o. o.number ≡ done → leb max_commands (count q) ≡ false) (λ l e. absurd (omega arith)) (λ l e d. lt-leb _ _ l)
-      (λ l e d. lt-leb _ _ l)
+  room_given : {u : Unit {0}} → (offered q c).given ≡ Ok u → leb max_commands (count q) ≡ false
+  room_given {u} =
+      by_offer q c (λ o. o.given ≡ Ok u → leb max_commands (count q) ≡ false) (λ l r. absurd cc) (λ l _ r. lt-leb _ _ l)
+      (λ l _ r. lt-leb _ _ l)
 
 -- ---- a turn. The queue is lent as a part of the queues
 
@@ -49,41 +50,42 @@ abbrev back : List ℕ → ℕ → List ℕ → List ℕ
 back queues i q = put_mid (i * queue_words) (i * queue_words + queue_words - i * queue_words) queues q
 
 module _ (home : List ℕ) (sender : ℕ) (c : ConfidentialHartRemoteCommand) (i mask : ℕ) (queues : List ℕ) where
-  pub passed_over : not (receives home sender c i) ≡ true → delivery (Mask mask) queues ≡ deliver home sender c 1 i mask queues
+  pub passed_over : receives home sender c i ≡ false → delivery (Ok (Mask mask)) queues ≡ deliver home sender c 1 i mask queues
   unfolding deliver
-  passed_over e = yes _ e refl
+  passed_over e = yes _ (not_yes _ e) refl
 
-  module _ (here : not (receives home sender c i) ≡ false) (n : ℕ) (q : List ℕ) (said : Queue.offer n q ≡ offered (lent queues i) c) where
-    of_row : Queue.offer n q ≡ offered (row queue_words queues i) c
+  module _ (here : receives home sender c i ≡ true) (r : Result (Unit {0}) Error) (q : List ℕ) (said : Queue.offer r q ≡ offered (lent queues i) c) where
+    of_row : Queue.offer r q ≡ offered (row queue_words queues i) c
     of_row = said ∙ ap (λ (r : List ℕ). offered r c) (part_row queue_words queues i)
 
-    number_is : n ≡ (offered (row queue_words queues i) c).number
-    number_is = ap (λ (o : Queue.Offer). o.number) of_row
+    given_is : r ≡ (offered (row queue_words queues i) c).given
+    given_is = ap (λ (o : Queue.Offer). o.given) of_row
 
     queue_is : q ≡ (offered (row queue_words queues i) c).queue
     queue_is = ap (λ (o : Queue.Offer). o.queue) of_row
 
-    pub full_refuses : i * queue_words + queue_words ≤ length queues → n ≢ done
-        → delivery (Refused ReachedMaxNumberOfRemoteCommands) (back queues i q) ≡ deliver home sender c 1 i mask queues
+    pub full_refuses : i * queue_words + queue_words ≤ length queues → (e : Error) → r ≡ Err e
+        → delivery (Err e) (back queues i q) ≡ deliver home sender c 1 i mask queues
     unfolding deliver
-    full_refuses fits ne =
-        let f = full_number (row queue_words queues i) c (λ e. ne (number_is ∙ e)) in
-        no _ here
+    full_refuses fits e is =
+        let f = full_given (row queue_words queues i) c e (sym given_is ∙ is) in
+        no _ (not_no _ here)
         (yes _ f.0
-        (ap (delivery (Refused ReachedMaxNumberOfRemoteCommands))
-        (part_put queue_words queues i q ∙ ap (put queue_words queues i) (queue_is ∙ f.1) ∙ put_row queue_words queues i fits)))
+        (λ k. delivery (Err (f.2 k))
+        ((part_put queue_words queues i q ∙ ap (put queue_words queues i) (queue_is ∙ f.1) ∙ put_row queue_words queues i fits) k)))
 
-    pub takes : n ≡ done → (m : ℕ) → m ≡ interrupting (hart_at home i) mask → delivery (Mask m) (back queues i q) ≡ deliver home sender c 1 i mask queues
+    pub takes : {u : Unit {0}} → r ≡ Ok u → (m : ℕ) → m ≡ interrupting (hart_at home i) mask
+        → delivery (Ok (Mask m)) (back queues i q) ≡ deliver home sender c 1 i mask queues
     unfolding deliver
     takes d m e =
-        no _ here
-        (no _ (room_number (row queue_words queues i) c (sym number_is ∙ d))
+        no _ (not_no _ here)
+        (no _ (room_given (row queue_words queues i) c (sym given_is ∙ d))
         (rw (e, part_put queue_words queues i q, queue_is) refl))
 
 -- ---- the loop of turns
 
 -- what follows a turn: the other harts with the mask so far, or nothing once a queue refused
-unfoldable after : Answer → List ℕ → (ℕ → List ℕ → Delivery) → Delivery
+unfoldable after : Answered → List ℕ → (ℕ → List ℕ → Delivery) → Delivery
 after a queues rest = pick (is_mask a) (rest (first_in a) queues) (delivery a queues)
 
 abbrev and_then : Delivery → (ℕ → List ℕ → Delivery) → Delivery
@@ -109,25 +111,25 @@ module _ (home : List ℕ) (sender : ℕ) (c : ConfidentialHartRemoteCommand) wh
     turns_start mask queues = ap (λ (k : ℕ). deliver home sender c k 0 mask queues) (sub-zero n)
 
     module _ (i mask : ℕ) (queues : List ℕ) where
-      pub turns_done : n ≤ i → deliver home sender c (n - i) i mask queues ≡ delivery (Mask mask) queues
+      pub turns_done : n ≤ i → deliver home sender c (n - i) i mask queues ≡ delivery (Ok (Mask mask)) queues
       unfolding deliver
       turns_done l =
           let e : n - i ≡ zero = omega arith in
           ap (λ (k : ℕ). deliver home sender c k i mask queues) e
 
-      module _ (l : i < n) (r : Answer) (queues' : List ℕ) (v : delivery r queues' ≡ deliver home sender c 1 i mask queues) where
-        turn : deliver home sender c (n - i) i mask queues ≡ after r queues' (deliver home sender c (n - (i + 1)) (i + 1))
+      module _ (l : i < n) (r : Result ℕ Error) (queues' : List ℕ) (v : delivery (masked r) queues' ≡ deliver home sender c 1 i mask queues) where
+        turn : deliver home sender c (n - i) i mask queues ≡ after (masked r) queues' (deliver home sender c (n - (i + 1)) (i + 1))
         turn =
             let e : n - i ≡ suc (n - (i + 1)) = omega arith in
             ap (λ (k : ℕ). deliver home sender c k i mask queues) e
             ∙ turn_first (n - (i + 1)) i mask queues
             ∙ ap (λ (d : Delivery). and_then d (deliver home sender c (n - (i + 1)) (i + 1))) (sym v)
 
-        pub turn_taken : (m : ℕ) → r ≡ Mask m → deliver home sender c (n - i) i mask queues ≡ deliver home sender c (n - (i + 1)) (i + 1) m queues'
+        pub turn_taken : (m : ℕ) → r ≡ Ok m → deliver home sender c (n - i) i mask queues ≡ deliver home sender c (n - (i + 1)) (i + 1) m queues'
         unfolding after pick
-        turn_taken m e = turn ∙ ap (λ (a : Answer). after a queues' (deliver home sender c (n - (i + 1)) (i + 1))) e
+        turn_taken m e = turn ∙ ap (λ (a : Result ℕ Error). after (masked a) queues' (deliver home sender c (n - (i + 1)) (i + 1))) e
 
-        -- an answer that is no mask ends the loop
-        pub turn_ends : ((m : ℕ) → r ≢ Mask m) → deliver home sender c (n - i) i mask queues ≡ delivery r queues'
-        unfolding after
-        turn_ends ne = turn ∙ sym (no _ (no_mask r ne) refl)
+        -- a refusal ends the loop
+        pub turn_ends : (e : Error) → r ≡ Err e → deliver home sender c (n - i) i mask queues ≡ delivery (Err e) queues'
+        unfolding after pick
+        turn_ends e is = turn ∙ ap (λ (a : Result ℕ Error). after (masked a) queues' (deliver home sender c (n - (i + 1)) (i + 1))) is

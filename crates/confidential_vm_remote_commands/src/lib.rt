@@ -2,7 +2,8 @@
 // SPDX-FileContributor: Wojciech Ozga <woz@zurich.ibm.com>, IBM Research - Zurich
 // SPDX-License-Identifier: Apache-2.0
 // Changed: ported to Rattle from `broadcast_remote_command` of core/control_data/confidential_vm.rs. The lazy fold over the harts is a loop
-// that stops at a full queue, and the tables are runs of words that the caller lends.
+// that stops at a full queue, and the tables are runs of words that the caller lends. A sender's number and a command go on one by one, as in
+// the Rust: the sender may be any number. The five tables are lent one by one: `sound_tables` says why.
 #![tactic(auto)]
 
 ghost use Rattle.std.specs.Prelude.{◌≡◌, [], true, ◌+◌, ◌*◌, ◌≤◌, length};
@@ -10,7 +11,7 @@ ghost use Rattle.remote_commands.specs.Queue.{queue_words};
 ghost use Rattle.hart_rows.specs.HartRows.{hart_words};
 ghost use Rattle.monitor_requests.specs.Tables.{Sized, sound, tables};
 ghost use Rattle.monitor_requests.specs.declared.Request.TheVariants.{Send};
-ghost use Rattle.monitor_requests.specs.Requests.{receives, delivery, deliver, answering, performed};
+ghost use Rattle.monitor_requests.specs.Requests.{receives, delivery, masked, deliver, answering, performed};
 ghost use Rattle.confidential_vm_remote_commands.specs.Homes.{Numbered, Homes};
 
 use confidential_hart_remote_command::ConfidentialHartRemoteCommand;
@@ -35,54 +36,39 @@ fn visit(
     i: usize,
     mask: u64,
     queues: &mut [u64],
-) -> Answer
+) -> Result<u64, Error>
     requires { (i * hart_words + hart_words ≤ length home.now) × (Numbered home.now i) × (i * queue_words + queue_words ≤ length queues.old) }
-    ensures { delivery result queues.new ≡ deliver home.now sender c 1 i mask queues.old }
+    ensures { delivery (masked result) queues.new ≡ deliver home.now sender c 1 i mask queues.old }
 {
-    let passed = !is_receiver(home, sender, c, i);
-    if passed {
-        return Answer::Mask(mask);
+    if !is_receiver(home, sender, c, i) {
+        return Ok(mask);
     }
     let a = i * QUEUE_WORDS;
     let e = a + QUEUE_WORDS;
-    let given = remote_commands::offer(&mut queues[a..e], c);
-    if given != error::DONE {
-        return Answer::Refused(Error::ReachedMaxNumberOfRemoteCommands);
-    }
-    let stolen = hart_tables::is_dummy(home, i);
-    if stolen {
+    remote_commands::offer(&mut queues[a..e], c)?;
+    if hart_tables::is_dummy(home, i) {
         let on = hart_tables::id(home, i);
-        return Answer::Mask(bits::enable_bit(mask, on));
+        return Ok(bits::enable_bit(mask, on));
     }
-    Answer::Mask(mask)
+    Ok(mask)
 }
 
-// Visits the harts in rising order, until a queue refuses: each turn gives the mask so far, and any other answer ends the broadcast, as an
-// error ends the Rust's `try_fold`.
+// Visits the harts in rising order, until a queue refuses, which ends the broadcast as an error ends the Rust's `try_fold`. Gives the mask.
 fn deliver(
     home: &[u64],
     n: usize,
     sender: u64,
     c: ConfidentialHartRemoteCommand,
     queues: &mut [u64],
-) -> Answer
+) -> Result<u64, Error>
     requires { (Homes n home.now) × (n * queue_words ≤ length queues.old) }
-    ensures { delivery result queues.new ≡ deliver home.now sender c n 0 0 queues.old }
+    ensures { delivery (masked result) queues.new ≡ deliver home.now sender c n 0 0 queues.old }
 {
     let mut mask = 0;
-    let mut i = 0;
-    while i < n {
-        match visit(home, sender, c, i, mask, queues) {
-            Answer::Mask(m) => {
-                mask = m;
-            }
-            refusal => {
-                return refusal;
-            }
-        }
-        i += 1;
+    for i in 0..n {
+        mask = visit(home, sender, c, i, mask, queues)?;
     }
-    Answer::Mask(mask)
+    Ok(mask)
 }
 
 // The broadcast over sound tables, for a caller that has judged them.
@@ -94,16 +80,16 @@ pub fn broadcast(
     hardware: &[u64],
     queues: &mut [u64],
     regions: &[u64],
-) -> Answer
+) -> Result<Answer, Error>
     requires { let t = tables head.now home.now hardware.now queues.old regions.now in Sized t × (sound t ≡ true) }
     ensures { answering result (tables head.now home.now hardware.now queues.new regions.now) []
         ≡ performed (Send sender c) (tables head.now home.now hardware.now queues.old regions.now) [] }
 {
-    let unknown = !c.is_well_formed();
-    if unknown {
-        return Answer::Refused(Error::UnknownKind);
+    if !c.is_well_formed() {
+        return Err(Error::UnknownKind);
     }
-    deliver(home, head[HARTS_WORD] as usize, sender, c, queues)
+    let mask = deliver(home, head[HARTS_WORD] as usize, sender, c, queues)?;
+    Ok(Answer::Mask(mask))
 }
 
 // Queues a command for the harts that it selects, in rising order and without the sender, whose number may be any. A hart that may not
@@ -116,13 +102,10 @@ pub fn broadcast_remote_command(
     hardware: &[u64],
     queues: &mut [u64],
     regions: &[u64],
-) -> Answer
+) -> Result<Answer, Error>
     ensures { answering result (tables head.now home.now hardware.now queues.new regions.now) []
         ≡ performed (Send sender c) (tables head.now home.now hardware.now queues.old regions.now) [] }
 {
-    let unsound = !sound_tables::are_tables_sound(head, home, hardware, queues, regions);
-    if unsound {
-        return Answer::Refused(Error::TablesNotSound);
-    }
+    sound_tables::judge(head, home, hardware, queues, regions)?;
     broadcast(sender, c, head, home, hardware, queues, regions)
 }

@@ -2,7 +2,7 @@
 // SPDX-FileContributor: Wojciech Ozga <woz@zurich.ibm.com>, IBM Research - Zurich
 // SPDX-License-Identifier: Apache-2.0
 // Changed: ported to Rattle from `ConfidentialVm::new` of core/control_data/confidential_vm.rs. The tables are lent runs of numbers, and the
-// harts are made here.
+// harts are made here. The five tables are lent one by one: `sound_tables` says why.
 #![tactic(auto)]
 
 ghost use Rattle.std.specs.Prelude.{◌≡◌, ◌*◌, ◌≤◌, [], ◌∷◌, length, replicate};
@@ -35,15 +35,13 @@ fn hart_at_setup(setup: Setup, h: u64) -> ConfidentialHart
     ConfidentialHart::from_vm_hart_reset(id)
 }
 
-// Writes each hart to its home row.
+// Writes each hart to its home row. This and the next differ in the record that they write, and are a loop of a line each.
 fn set_home(home: &mut [u64], setup: Setup)
     requires { setup.harts * hart_words ≤ length home.old }
     ensures { home.new ≡ over (rows_of (λ h. to_words (setup_hart setup h)) setup.harts) home.old }
 {
-    let mut h = 0;
-    while h < setup.harts {
+    for h in 0..setup.harts {
         hart_rows::store(home, h as usize, hart_at_setup(setup, h));
-        h += 1;
     }
 }
 
@@ -52,14 +50,9 @@ fn set_hardware(hardware: &mut [u64], m: u64)
     requires { m * hart_words ≤ length hardware.old }
     ensures { hardware.new ≡ over (rows_of (λ k. to_words (dummy k)) m) hardware.old }
 {
-    let mut k = 0;
-    while k < m {
-        hart_rows::store(
-            hardware,
-            k as usize,
-            ConfidentialHart::dummy(HardwareHartId(k)),
-        );
-        k += 1;
+    for k in 0..m {
+        let dummy = ConfidentialHart::dummy(HardwareHartId(k));
+        hart_rows::store(hardware, k as usize, dummy);
     }
 }
 
@@ -110,14 +103,14 @@ pub fn new(
     hardware: &mut [u64],
     queues: &mut [u64],
     regions: &mut [u64],
-) -> Answer
+) -> Result<Answer, Error>
     ensures { answering result (tables head.new home.new hardware.new queues.new regions.new) []
         ≡ set_up setup (tables head.old home.old hardware.old queues.old regions.old) }
 {
     let in_range = sound_tables::are_counts_in_range(setup.harts, setup.hardware);
     let out_of_range = !(in_range & (setup.boot < setup.harts));
     if out_of_range {
-        return Answer::Refused(Error::SetupOutOfRange);
+        return Err(Error::SetupOutOfRange);
     }
     let too_short = !sound_tables::are_long_enough(
         setup.harts,
@@ -129,8 +122,8 @@ pub fn new(
         regions,
     );
     if too_short {
-        return Answer::Refused(Error::RoomTooShort);
+        return Err(Error::RoomTooShort);
     }
     write(setup, head, home, hardware, queues, regions);
-    Answer::Done
+    Ok(Answer::Done)
 }

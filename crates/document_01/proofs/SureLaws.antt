@@ -1,4 +1,5 @@
 -- Cases without asking soundness at each request: what a case prints is then computed. Assumes nothing.
+use Rattle.std.proofs.Common.{Ok}
 use mathlib.Core.Path.{◌≡◌, refl, ap, ◌∙◌}
 use mathlib.Core.Bool.{Bool, true, false, ◌&&◌, not}
 use mathlib.Core.List.{List, [], ◌∷◌, map}
@@ -45,16 +46,16 @@ sure_seen c =
     }
 
 -- a setup that is not refused is done
-setup_done : (s : Setup) (t : Tables) → is_refused (set_up s t).answer ≡ false → (set_up s t).answer ≡ Done
+setup_done : (s : Setup) (t : Tables) → is_refused (set_up s t).answer ≡ false → (set_up s t).answer ≡ Ok Done
 setup_done s t =
-    by_set_up s t (λ (o : Outcome). is_refused o.answer ≡ false → o.answer ≡ Done) (λ e other r. cc) (λ a r. refl)
+    by_set_up s t (λ (o : Outcome). is_refused o.answer ≡ false → o.answer ≡ Ok Done) (λ e other r. cc) (λ a r. refl)
 
 -- the setup is accepted
 abbrev pub proper : Case → Bool
 proper c = not (is_refused (set_up c.setup (room c.setup)).answer)
 
 module _ (c : Case) (p : proper c ≡ true) where
-  accepts : (set_up c.setup (room c.setup)).answer ≡ Done
+  accepts : (set_up c.setup (room c.setup)).answer ≡ Ok Done
   accepts =
       setup_done c.setup (room c.setup)
       (not-true _ p)

@@ -45,10 +45,8 @@ pub fn execute_all(hart: u64, queue: &[u64], effects: &mut [u64]) -> bool
 {
     let n = queue[0] as usize;
     let mut off = false;
-    let mut i = 0;
-    while i < n {
-        off = off | execute(hart, remote_commands::command(queue, i), effects, i);
-        i += 1;
+    for i in 0..n {
+        off |= execute(hart, remote_commands::command(queue, i), effects, i);
     }
     off
 }

@@ -1,5 +1,5 @@
 -- The numbers given back.
-use Rattle.std.specs.Prelude.{ℕ}
+use Rattle.std.specs.Prelude.{ℕ, Result, Ok, Err}
 use Rattle.error.specs.declared.Error.{Error}
 use Rattle.error.specs.declared.Error.TheVariants.{InvalidHartId, HartAlreadyRunning, HartNotExecutable, CannotStartNotStoppedHart, CannotSuspedNotStartedHart, CannotStopNotStartedHart, CannotStartNotSuspendedHart, ReachedMaxNumberOfRemoteCommands, ReachedMaxNumberOfMmioRegions, OverlappingMmioRegion, EndTooLarge, TablesNotSound, RoomTooShort, NoSuchHardwareHart, HardwareHartBusy, HardwareHartIdle, OperationPending, SetupOutOfRange, UnknownKind, BadLine}
 
@@ -109,3 +109,8 @@ number_of OperationPending = operation_pending
 number_of SetupOutOfRange = setup_out_of_range
 number_of UnknownKind = unknown_kind
 number_of BadLine = bad_line
+
+-- the number of an answer: done, or the error's
+abbrev pub number_in : {A : Type 0} → Result A Error → ℕ
+number_in (Ok x) = done
+number_in (Err e) = number_of e

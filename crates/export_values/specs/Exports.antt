@@ -4,9 +4,8 @@ use Rattle.error.specs.Error.{room_too_short}
 use Rattle.table_rows.specs.Choice.{pick}
 use Rattle.monitor_requests.specs.declared.Setup.{Setup}
 use Rattle.monitor_requests.specs.declared.Request.{Request}
-use Rattle.monitor_requests.specs.declared.Answer.{Answer}
 use Rattle.monitor_requests.specs.Tables.{Tables}
-use Rattle.monitor_requests.specs.Answers.{given, values}
+use Rattle.monitor_requests.specs.Answers.{Answered, given, values}
 use Rattle.table_rows.specs.Rows.{over}
 use Rattle.monitor_requests.specs.Requests.{Outcome, performed, set_up}
 
@@ -54,7 +53,7 @@ abbrev pub written : ℕ → List ℕ → Written
 written number value = record { number = number; value = value }
 
 -- an answer's number, and its values over the front of the words lent for them. A refusal has none
-abbrev pub told : Answer → List ℕ → Written
+abbrev pub told : Answered → List ℕ → Written
 told answer words = written (given answer).number (over (values (given answer)) words)
 
 -- the number, the words lent for the values, and the tables afterwards

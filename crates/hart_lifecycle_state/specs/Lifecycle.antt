@@ -1,8 +1,14 @@
 -- The lifecycle of a hart: RISC-V SBI 2.0, chapter 9 "Hart State Management Extension", without its pending states, and with PoweredOff, a last state
 -- that the chapter lacks.
-use Rattle.std.specs.Prelude.{ℕ, List, [], ◌∷◌, eqb, get_or}
-use Rattle.error.specs.Error.{cannot_start_not_stopped_hart, cannot_susped_not_started_hart, cannot_stop_not_started_hart, cannot_start_not_suspended_hart}
+use Rattle.std.specs.Prelude.{◌≡◌, ℕ, ◌<◌, Result, Ok, Err, MatchResult, eqb}
+use Rattle.error.specs.declared.Error.{Error}
+use Rattle.error.specs.declared.Error.TheVariants.{TablesNotSound}
+use Rattle.error.specs.Error.{number_of, cannot_start_not_stopped_hart, cannot_susped_not_started_hart, cannot_stop_not_started_hart, cannot_start_not_suspended_hart}
 use Rattle.table_rows.specs.Choice.{pick}
+use Rattle.hart_lifecycle_state.specs.declared.HartLifecycleState.{HartLifecycleState}
+use Rattle.hart_lifecycle_state.specs.declared.HartLifecycleState.TheVariants.{Started, Stopped, Suspended, PoweredOff}
+use Rattle.hart_lifecycle_state.specs.declared.LifecycleChange.{LifecycleChange}
+use Rattle.hart_lifecycle_state.specs.declared.LifecycleChange.TheVariants.{Start, Suspend, Stop, Wake, Off}
 
 -- the states
 abbrev pub started : ℕ
@@ -46,15 +52,31 @@ wake = only suspended started cannot_start_not_suspended_hart
 abbrev pub off : ℕ → Entry
 off state = becomes powered_off
 
--- the columns of the table, in their order
-abbrev pub changes : List (ℕ → Entry)
-changes = start ∷ suspend ∷ stop ∷ wake ∷ off ∷ []
+-- the change of each name
+abbrev pub change_of : LifecycleChange → ℕ → Entry
+change_of Start = start
+change_of Suspend = suspend
+change_of Stop = stop
+change_of Wake = wake
+change_of Off = off
 
--- the change of column c, c below 5
-abbrev pub change_of : ℕ → ℕ → Entry
-change_of c = get_or changes c off
+-- the number of a state
+abbrev pub state_number : HartLifecycleState → ℕ
+state_number Started = started
+state_number Stopped = stopped
+state_number Suspended = suspended
+state_number PoweredOff = powered_off
 
--- a place of the table holds the new state, or the number that refuses
+-- the state of a number, or 12 for a number past them
+abbrev pub StateOf : ℕ → Result HartLifecycleState Error → Type 0
+StateOf number r = MatchResult r (λ state. number ≡ state_number state) (λ e. (e ≡ TablesNotSound) × (powered_off < number))
+
+-- a change as the code tells it
+abbrev pub entry_of : Result HartLifecycleState Error → Entry
+entry_of (Ok state) = becomes (state_number state)
+entry_of (Err e) = refused (number_of e)
+
+-- the number of an entry: the new state, or what refuses
 abbrev pub entry_number : Entry → ℕ
 entry_number (becomes state) = state
 entry_number (refused number) = number

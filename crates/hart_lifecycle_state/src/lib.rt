@@ -2,13 +2,20 @@
 // SPDX-FileContributor: Wojciech Ozga <woz@zurich.ibm.com>, IBM Research - Zurich
 // SPDX-License-Identifier: Apache-2.0
 // Changed: ported to Rattle from core/architecture/riscv/hart_lifecycle_state.rs and the transitions of
-// core/control_data/confidential_hart.rs: states are numbers, and the transitions are one table.
+// core/control_data/confidential_hart.rs: the transitions are one table.
 #![tactic(auto)]
 
-ghost use Rattle.std.specs.Prelude.{◌≡◌, ◌≤◌, ◌<◌, length};
-ghost use Rattle.hart_lifecycle_state.specs.Lifecycle.{powered_off, changes, change_of, entry_number};
+ghost use Rattle.std.specs.Prelude.{◌≡◌};
+ghost use Rattle.hart_lifecycle_state.specs.Lifecycle.{change_of, state_number, StateOf, entry_of};
 
-// The states of the lifecycle.
+use HartLifecycleState::{PoweredOff, Started, Stopped, Suspended};
+use error::Error;
+use error::Error::{
+    CannotStartNotStoppedHart as NoStart, CannotStartNotSuspendedHart as NoWake,
+    CannotStopNotStartedHart as NoStop, CannotSuspedNotStartedHart as NoSuspend,
+};
+
+// The words that stand for the states in a table, where any other word may stand too. Who reads a table asks for a word by its name.
 pub const STARTED: u64 = 0;
 
 pub const STOPPED: u64 = 1;
@@ -17,32 +24,69 @@ pub const SUSPENDED: u64 = 2;
 
 pub const POWERED_OFF: u64 = 3;
 
+// The states of the lifecycle.
+#[derive(Clone, Copy, Debug, PartialEq, Eq)]
+pub enum HartLifecycleState {
+    Started,
+    Stopped,
+    Suspended,
+    PoweredOff,
+}
+
 // The changes of the lifecycle.
-pub const START: u64 = 0;
+#[derive(Clone, Copy, Debug, PartialEq, Eq)]
+pub enum LifecycleChange {
+    Start,
+    Suspend,
+    Stop,
+    Wake,
+    Off,
+}
 
-pub const SUSPEND: u64 = 1;
-
-pub const STOP: u64 = 2;
-
-pub const WAKE: u64 = 3;
-
-pub const OFF: u64 = 4;
-
-// A row a state, and in it for start, suspend, stop, wake and off the new state or the number that refuses. States are below 4, and these
-// numbers are not.
-const LIFECYCLE: [[u64; 5]; 4] = [
-    [4, 2, 1, 7, 3],
-    [0, 5, 6, 7, 3],
-    [4, 5, 6, 0, 3],
-    [4, 5, 6, 7, 3],
+// One table, as document 01 asks. A row a state, and in it for start, suspend, stop, wake and off the new state or the error that refuses. It
+// is a static, since a const of results is built anew at each use.
+#[rattlefmt::skip]
+static LIFECYCLE: [[Result<HartLifecycleState, Error>; 5]; 4] = [
+    [Err(NoStart), Ok(Suspended), Ok(Stopped), Err(NoWake), Ok(PoweredOff)],
+    [Ok(Started), Err(NoSuspend), Err(NoStop), Err(NoWake), Ok(PoweredOff)],
+    [Err(NoStart), Err(NoSuspend), Err(NoStop), Ok(Started), Ok(PoweredOff)],
+    [Err(NoStart), Err(NoSuspend), Err(NoStop), Err(NoWake), Ok(PoweredOff)],
 ];
 
-// The entry of the table for a state and a change.
-pub fn lifecycle_change(state: u64, change: u64) -> u64
-    requires { (state ≤ powered_off) × (change < length changes) }
-    ensures { result ≡ entry_number (change_of change state) }
-{
-    let row = state as usize;
-    let column = change as usize;
-    LIFECYCLE[row][column]
+impl TryFrom<u64> for HartLifecycleState {
+    type Error = Error;
+
+    ghost try_from_gives = { StateOf };
+
+    fn try_from(word: u64) -> Result<Self, Error> {
+        match word {
+            STARTED => Ok(Started),
+            STOPPED => Ok(Stopped),
+            SUSPENDED => Ok(Suspended),
+            POWERED_OFF => Ok(PoweredOff),
+            _ => Err(Error::TablesNotSound),
+        }
+    }
+}
+
+impl From<HartLifecycleState> for u64 {
+    ghost from_gives = { λ state word. word ≡ state_number state };
+
+    fn from(state: HartLifecycleState) -> u64 {
+        match state {
+            Started => STARTED,
+            Stopped => STOPPED,
+            Suspended => SUSPENDED,
+            PoweredOff => POWERED_OFF,
+        }
+    }
+}
+
+impl HartLifecycleState {
+    // The state that a change leads to from this one, or why it is refused.
+    pub fn after(self, change: LifecycleChange) -> Result<HartLifecycleState, Error>
+        ensures { entry_of result ≡ change_of change (state_number self) }
+    {
+        LIFECYCLE[self as usize][change as usize]
+    }
 }

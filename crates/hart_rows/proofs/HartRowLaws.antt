@@ -1,11 +1,11 @@
 -- A hart record and its words, and its row of a table. Assumes nothing.
 use Prim.Native.Nat.{ℕ, ◌+◌, ◌*◌, ◌≤◌}
-use mathlib.Core.Path.{◌≡◌, refl, ap}
+use mathlib.Core.Path.{◌≡◌, refl, ap, ◌∙◌}
 use mathlib.Core.Logic.{◌≢◌}
 use mathlib.Core.List.{List}
 use lib.ListN.{length, get_or, take, drop}
 use Rattle.table_rows.specs.Rows.{row, put, word_at}
-use Rattle.table_rows.proofs.RowLaws.{words_all, row_length, row_put_same, row_put_other}
+use Rattle.table_rows.proofs.RowLaws.{words_all, row_length, put_row, row_put_same, row_put_other}
 use Rattle.confidential_hart.specs.declared.ConfidentialHart.{ConfidentialHart}
 use Rattle.confidential_hart.specs.Hart.{register_count, hart_of, well_formed}
 use Rattle.hart_rows.specs.HartRows.{vm_word, id_word, lifecycle_word, operation_word, x_word, y_word, register_word, hart_words, from_words, to_words, hart_at}
@@ -42,6 +42,10 @@ module _ (rows : List ℕ) (i : ℕ) (fits : i * hart_words + hart_words ≤ len
   pub loaded_words : to_words (hart_at rows i) ≡ row hart_words rows i
   unfolding hart_at
   loaded_words = to_from (row hart_words rows i) (row_length hart_words rows i fits)
+
+  -- a record that is stored where it was loaded leaves the table as it was
+  pub store_loaded : put hart_words rows i (to_words (hart_at rows i)) ≡ rows
+  store_loaded = ap (put hart_words rows i) loaded_words ∙ put_row hart_words rows i fits
 
   -- what is stored is loaded, and another row is as it was
   pub load_store : (h : ConfidentialHart) → length h.registers ≡ register_count → hart_at (put hart_words rows i (to_words h)) i ≡ h

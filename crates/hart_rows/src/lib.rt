@@ -6,7 +6,7 @@ ghost use Rattle.table_rows.specs.Rows.{put};
 ghost use Rattle.confidential_hart.specs.Hart.{well_formed};
 ghost use Rattle.hart_rows.specs.HartRows.{vm_word, hart_words, to_words, from_words, hart_at};
 
-use confidential_hart::{A0, A1, ConfidentialHart, MEPC, MSTATUS, REGISTERS, VSATP, VSSTATUS};
+use confidential_hart::{ConfidentialHart, REGISTERS};
 
 // The places of a row's words: the registers are the last.
 pub const VM_WORD: usize = 0;
@@ -26,19 +26,6 @@ pub const REGISTER_WORD: usize = 6;
 // How many words a row has.
 pub const HART_WORDS: usize = REGISTER_WORD + REGISTERS;
 
-// The places of the registers in a row.
-const A0_WORD: usize = REGISTER_WORD + A0;
-
-const A1_WORD: usize = REGISTER_WORD + A1;
-
-const MEPC_WORD: usize = REGISTER_WORD + MEPC;
-
-const VSATP_WORD: usize = REGISTER_WORD + VSATP;
-
-const MSTATUS_WORD: usize = REGISTER_WORD + MSTATUS;
-
-const VSSTATUS_WORD: usize = REGISTER_WORD + VSSTATUS;
-
 // Whether a row of twelve words holds a record that is as it must be. The words are read in their place, which is faster than a record by
 // value; the VM is handed over by the caller, who has read it.
 pub fn is_row_well_formed(vm: u64, row: &[u64]) -> bool
@@ -55,19 +42,14 @@ pub fn is_row_well_formed(vm: u64, row: &[u64]) -> bool
     )
 }
 
-// The record that twelve words hold.
+// The record that twelve words hold. They are lent from a table, or by C, and are no array, so this and the next are no `From`, and each
+// function on a row asks for its length.
 pub fn from_words(row: &[u64]) -> ConfidentialHart
     requires { length row.now ≡ hart_words }
     ensures { result ≡ from_words row.now }
 {
-    let registers = [
-        row[A0_WORD],
-        row[A1_WORD],
-        row[MEPC_WORD],
-        row[VSATP_WORD],
-        row[MSTATUS_WORD],
-        row[VSSTATUS_WORD],
-    ];
+    let mut registers = [0; REGISTERS];
+    registers.copy_from_slice(&row[REGISTER_WORD..HART_WORDS]);
     ConfidentialHart {
         vm: row[VM_WORD],
         id: row[ID_WORD],
@@ -84,19 +66,13 @@ pub fn to_words(hart: ConfidentialHart, row: &mut [u64])
     requires { length row.old ≡ hart_words }
     ensures { row.new ≡ to_words hart }
 {
-    let registers = hart.registers;
     row[VM_WORD] = hart.vm;
     row[ID_WORD] = hart.id;
     row[LIFECYCLE_WORD] = hart.lifecycle;
     row[OPERATION_WORD] = hart.operation;
     row[X_WORD] = hart.x;
     row[Y_WORD] = hart.y;
-    row[A0_WORD] = registers[A0];
-    row[A1_WORD] = registers[A1];
-    row[MEPC_WORD] = registers[MEPC];
-    row[VSATP_WORD] = registers[VSATP];
-    row[MSTATUS_WORD] = registers[MSTATUS];
-    row[VSSTATUS_WORD] = registers[VSSTATUS];
+    row[REGISTER_WORD..HART_WORDS].copy_from_slice(&hart.registers);
 }
 
 // The record in row `i` of a table.
@@ -104,9 +80,7 @@ pub fn load(rows: &[u64], i: usize) -> ConfidentialHart
     requires { i * hart_words + hart_words ≤ length rows.now }
     ensures { result ≡ hart_at rows.now i }
 {
-    let a = i * HART_WORDS;
-    let e = a + HART_WORDS;
-    from_words(&rows[a..e])
+    from_words(table_rows::row(rows, HART_WORDS, i))
 }
 
 // Writes `hart` to row `i` of a table.

@@ -9,8 +9,7 @@ use Rattle.confidential_hart_remote_command.specs.declared.ConfidentialHartRemot
 use Rattle.remote_commands.specs.Queue.{commands}
 use Rattle.confidential_hart.specs.declared.ConfidentialHart.{ConfidentialHart}
 use Rattle.confidential_hart.specs.Hart.{is_dummy}
-use Rattle.monitor_requests.specs.declared.Answer.{Answer}
-use Rattle.monitor_requests.specs.Answers.{given, is_op}
+use Rattle.monitor_requests.specs.Answers.{Answered, given, is_op}
 use Rattle.monitor_requests.specs.Tables.{Tables, harts, hardware_harts, allowed, home_hart, hardware_hart, queue, regions_of}
 use Rattle.hart_standing.specs.Standing.{Standing, at_home, on_hardware}
 
@@ -57,5 +56,5 @@ pub record Holds (t : Tables) (n m : ℕ) (v : View) : Type 0 where
   pub allowed_is : allowed t ≡ v.allowed
 
 -- the answer is an operation
-abbrev pub is_taken : Answer → Bool
+abbrev pub is_taken : Answered → Bool
 is_taken a = is_op (given a).word

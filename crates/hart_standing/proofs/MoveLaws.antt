@@ -1,4 +1,5 @@
 -- What a setup, a move of a hart and a change of a record make of where harts stand and of their records. Assumes nothing.
+use Rattle.std.proofs.Common.{Ok}
 use Prim.Native.Nat.{ℕ, ◌<◌}
 use mathlib.Core.Path.{◌≡◌, refl, sym, ap, ap₂, ◌∙◌}
 use mathlib.Core.Logic.{◌≢◌}
@@ -19,10 +20,9 @@ use Rattle.hart_lifecycle_state.proofs.LifecycleLaws.{only_becomes, only_refused
 use Rattle.confidential_hart.specs.declared.ConfidentialHart.{ConfidentialHart}
 use Rattle.confidential_hart.specs.declared.ConfidentialHartId.{ConfidentialHartId}
 use Rattle.confidential_hart.specs.declared.HardwareHartId.{HardwareHartId}
-use Rattle.confidential_hart.specs.declared.Transition.{Transition}
 use Rattle.confidential_hart.specs.Hart.{no_vm, register_count, is_dummy, well_formed, with_operation}
 use Rattle.confidential_hart.specs.HartStart.{start_registers, wake_registers}
-use Rattle.confidential_hart.specs.Transition.{moved, transition}
+use Rattle.confidential_hart.specs.Transition.{Transition, moved, transition}
 use Rattle.confidential_hart.proofs.StartLaws.{start_length, wake_length}
 use Rattle.confidential_hart.proofs.TransitionLaws.{moves_is}
 use Rattle.hart_rows.specs.HartRows.{hart_words, to_words, hart_at}
@@ -345,7 +345,7 @@ await_holds k kind x y t effects p =
 -- ---- a setup
 
 -- a setup that is accepted, on any tables: every hart is at home as made, nothing waits, no region stands and nothing is allowed
-pub setup_holds : (s : Setup) (t : Tables) → (set_up s t).answer ≡ Done
+pub setup_holds : (s : Setup) (t : Tables) → (set_up s t).answer ≡ Ok Done
     → Holds (set_up s t).after s.harts s.hardware (view (λ h. at_home) (setup_hart s) (λ h. []) [] 0)
 setup_holds s t e =
     let after : Tables = (set_up s t).after in

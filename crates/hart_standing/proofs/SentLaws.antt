@@ -28,14 +28,13 @@ use Rattle.effects.specs.Effects.{shuts_down}
 use Rattle.hart_lifecycle_state.specs.Lifecycle.{powered_off, off}
 use Rattle.confidential_hart.specs.declared.ConfidentialHart.{ConfidentialHart}
 use Rattle.confidential_hart.specs.declared.HardwareHartId.{HardwareHartId}
-use Rattle.confidential_hart.specs.declared.Transition.{Transition}
+use Rattle.confidential_hart.specs.Transition.{Transition}
 use Rattle.confidential_hart.specs.Hart.{register_count, no_operation, with_operation}
 use Rattle.confidential_hart.proofs.TransitionLaws.{moves_is}
 use Rattle.hart_rows.specs.HartRows.{hart_words}
 use Rattle.hart_rows.proofs.HartRowLaws.{loaded_words}
 use Rattle.monitor_requests.specs.declared.Request.TheVariants.{Send, Allow, Add, Remove, Broadcast, Process, Resume}
-use Rattle.monitor_requests.specs.declared.Answer.{Answer}
-use Rattle.monitor_requests.specs.Answers.{given}
+use Rattle.monitor_requests.specs.Answers.{Answered, given}
 use Rattle.monitor_requests.specs.Tables.{
   Tables,
   tables,
@@ -139,12 +138,12 @@ refuses_now t sender c h = receives t.home sender c h && leb max_commands (lengt
 
 -- a broadcast that is answered so delivers to hart h: one that is not refused to each that receives, one that is refused to those below the
 -- hart that refuses
-abbrev pub delivers_now : Answer → Tables → ℕ → ConfidentialHartRemoteCommand → ℕ → Bool
+abbrev pub delivers_now : Answered → Tables → ℕ → ConfidentialHartRemoteCommand → ℕ → Bool
 delivers_now a t sender c h =
     receives t.home sender c h && (eqb (given a).number done || every (λ g. not (refuses_now t sender c g)) (h + 1))
 
 -- the commands that wait for hart h then
-abbrev pub waiting_then : Answer → Tables → ℕ → ConfidentialHartRemoteCommand → ℕ → List ConfidentialHartRemoteCommand
+abbrev pub waiting_then : Answered → Tables → ℕ → ConfidentialHartRemoteCommand → ℕ → List ConfidentialHartRemoteCommand
 waiting_then a t sender c h =
     pick (delivers_now a t sender c h)
     (pick (any_of (λ d. same d c) (commands (queue t h))) (commands (queue t h)) (commands (queue t h) ++ (c ∷ [])))
@@ -191,7 +190,7 @@ module _ (sender : ℕ) (c : ConfidentialHartRemoteCommand) (t : Tables) (s : so
   delivers_alike h l =
       ap (λ (b : Bool). receives t.home sender c h && b)
       (rw (answer_is sender c t s, none_refuses h l)
-      (by_pick (λ (a : Answer). eqb (given a).number done || ltb h (refuser sender c t) ≡ ltb h (refuser sender c t))
+      (by_pick (λ (a : Answered). eqb (given a).number done || ltb h (refuser sender c t) ≡ ltb h (refuser sender c t))
       (ltb (refuser sender c t) (harts t)) _ _
       (λ b. refl)
       (λ b.
@@ -314,7 +313,7 @@ unfolding effect
 process_holds k t effects p = processed_holds t k.0 (process_held k t effects p)
 
 -- the record of a hart that is answered so: an operation that is given is taken
-abbrev pub after_taking : Answer → ConfidentialHart → ConfidentialHart
+abbrev pub after_taking : Answered → ConfidentialHart → ConfidentialHart
 after_taking a x = pick (is_taken a) (with_operation no_operation 0 0 x) x
 
 module _ (t : Tables) (k : ℕ) (x : Held t k) where
@@ -332,7 +331,7 @@ module _ (t : Tables) (k : ℕ) (x : Held t k) where
       (having (λ h. pick (is_on k (standing t h)) (after_taking (resumed k t []).answer (hart_now t h)) (hart_now t h)) (λ h. commands (queue t h))
       (view_of t))
   going_holds =
-      let a : Answer = (resumed k t []).answer in
+      let a : Answered = (resumed k t []).answer in
       let y : ConfidentialHart = hardware_hart t k in
       let taken : ConfidentialHart = with_operation no_operation 0 0 y in
       rw going_is

@@ -14,6 +14,9 @@ use confidential_hart::NO_VM;
 use hart_lifecycle_state::{STARTED, SUSPENDED};
 use hart_rows::{HART_WORDS, ID_WORD, LIFECYCLE_WORD, OPERATION_WORD, VM_WORD};
 
+// A word of a row, by its name. One function over the places would be no plainer: each of these is one call. A type that says that row `i` lies
+// within the table would be made at each call too, since a request looks at rows of numbers that it was asked for.
+
 // The VM of the hart in row `i`.
 pub fn vm(rows: &[u64], i: usize) -> u64
     requires { i * hart_words + hart_words ≤ length rows.now }
@@ -59,8 +62,7 @@ pub fn is_executable(rows: &[u64], i: usize) -> bool
     requires { i * hart_words + hart_words ≤ length rows.now }
     ensures { result ≡ is_executable (hart_at rows.now i) }
 {
-    let state = lifecycle(rows, i);
-    (state == STARTED) | (state == SUSPENDED)
+    matches!(lifecycle(rows, i), STARTED | SUSPENDED)
 }
 
 // Exchanges row `h` of one table with row `k` of another.
@@ -69,8 +71,7 @@ pub fn exchange(home: &mut [u64], h: usize, hardware: &mut [u64], k: usize)
     ensures { (home.new ≡ put hart_words home.old h (row hart_words hardware.old k))
         × (hardware.new ≡ put hart_words hardware.old k (row hart_words home.old h)) }
 {
-    let real = hart_rows::load(home, h);
-    let dummy = hart_rows::load(hardware, k);
-    hart_rows::store(home, h, dummy);
-    hart_rows::store(hardware, k, real);
+    let a = h * HART_WORDS;
+    let b = k * HART_WORDS;
+    home[a..a + HART_WORDS].swap_with_slice(&mut hardware[b..b + HART_WORDS]);
 }

@@ -5,30 +5,48 @@
 // hardware harts' table, and to that hart's queue.
 #![tactic(auto)]
 
-ghost use Rattle.std.specs.Prelude.{◌≡◌, ◌+◌, ◌*◌, ◌≤◌, length};
+ghost use Rattle.std.specs.Prelude.{◌≡◌, ◌+◌, ◌*◌, ◌≤◌, [], length, get_or, Ok};
 ghost use Rattle.table_rows.specs.Rows.{row, put, over};
 ghost use Rattle.table_rows.specs.Choice.{pick};
 ghost use Rattle.remote_commands.specs.Queue.{max_commands, queue_words, count, commands, emptied};
 ghost use Rattle.effects.specs.Effects.{effect_words, effects_of};
 ghost use Rattle.confidential_hart.specs.Transition.{after_off};
 ghost use Rattle.hart_rows.specs.HartRows.{hart_words, hart_at, to_words};
-ghost use Rattle.monitor_requests.specs.Requests.{did_rows, own_commands, going, goes_on};
+ghost use Rattle.monitor_requests.specs.Tables.{hardware_word, head_words, tables};
+ghost use Rattle.monitor_requests.specs.Requests.{held_at, did_rows, own_commands, going, goes_on};
 
-use confidential_hart::NO_OPERATION;
+use confidential_hart::{HardwareHartId, NO_OPERATION};
 use confidential_hart_remote_command::ConfidentialHartRemoteCommand;
+use error::Error;
 use hart_lifecycle_state::POWERED_OFF;
-use monitor_requests::Answer;
+use monitor_requests::{Answer, HARDWARE_WORD};
 use remote_commands::QUEUE_WORDS;
 
-// Powers off the hart in row `k`, if it is to be.
+// The row of the confidential hart that a hardware hart holds: there is such a hardware hart, and its row holds no dummy.
+pub fn held(on: HardwareHartId, head: &[u64], hardware: &[u64]) -> Result<usize, Error>
+    requires { (head_words ≤ length head.now) × (get_or head.now hardware_word 0 * hart_words ≤ length hardware.now) }
+    ensures { result ≡ held_at on.0 (tables head.now [] hardware.now [] []) }
+{
+    if head[HARDWARE_WORD] <= on.0 {
+        return Err(Error::NoSuchHardwareHart);
+    }
+    let k = on.0 as usize;
+    if hart_tables::is_dummy(hardware, k) {
+        return Err(Error::HardwareHartIdle);
+    }
+    Ok(k)
+}
+
+// Powers off the hart in row `k`, if it is to be: both callers have the flag, so it is tested here once.
 fn power_off_if(off: bool, hardware: &mut [u64], k: usize)
     requires { k * hart_words + hart_words ≤ length hardware.old }
     ensures { hardware.new
         ≡ pick off (put hart_words hardware.old k (to_words (after_off (hart_at hardware.old k)).hart)) hardware.old }
 {
     if off {
-        let step = hart_rows::load(hardware, k).transition_to_shutdown();
-        hart_rows::store(hardware, k, step.hart);
+        if let Ok(hart) = hart_rows::load(hardware, k).transition_to_shutdown() {
+            hart_rows::store(hardware, k, hart);
+        }
     }
 }
 
@@ -45,8 +63,7 @@ pub fn execute_own(
         × (hardware.new ≡ did_rows (own_commands c hart) hardware.old k)
         × (effects.new ≡ over (effects_of hart (own_commands c hart)) effects.old) }
 {
-    let passed = !c.is_hart_selected(hart);
-    if passed {
+    if !c.is_hart_selected(hart) {
         return 0;
     }
     let off = effects::execute(hart, c, effects, 0);
@@ -83,7 +100,7 @@ pub fn execute_queued(
 // What the hart in row `k` goes on with: off, the operation that it waited for, which is taken, or run.
 pub fn go_on(hardware: &mut [u64], k: usize) -> Answer
     requires { k * hart_words + hart_words ≤ length hardware.old }
-    ensures { going result hardware.new ≡ goes_on hardware.old k }
+    ensures { going (Ok result) hardware.new ≡ goes_on hardware.old k }
 {
     let hart = hart_rows::load(hardware, k);
     if hart.lifecycle == POWERED_OFF {

@@ -1,4 +1,5 @@
-// The leaves as C functions, so that `compare/` can run them beside the original Rust. Each promises what the function that it calls promises.
+// The leaves as C functions, so that `compare/` can run them beside the original Rust. C lends words, so each asks for as many as it reads.
+// Each promises what the function that it calls promises.
 #![tactic(auto)]
 
 ghost use Rattle.std.specs.Prelude.{◌≡◌, ◌*◌, ◌≤◌, length};
@@ -7,15 +8,16 @@ ghost use Rattle.mmio_regions.specs.Regions.{any_contains};
 ghost use Rattle.mmio_regions.specs.Table.{region_words, standing, regions_sound, Sized, added, removed, table};
 ghost use Rattle.confidential_hart_remote_command.specs.Command.{well_formed, command_words, from_words as command_of};
 ghost use Rattle.confidential_hart_remote_command.specs.Selection.{selects};
-ghost use Rattle.remote_commands.specs.Queue.{queue_words, queue_well_formed, offer, offered};
+ghost use Rattle.remote_commands.specs.Queue.{queue_words, queue_well_formed, offered};
 ghost use Rattle.confidential_hart.specs.Hart.{well_formed as hart_well_formed, dummy, reset_hart, boot_hart};
 ghost use Rattle.hart_rows.specs.HartRows.{hart_words, to_words, from_words};
-ghost use Rattle.confidential_hart.specs.Transition.{after_start, after_suspend, after_stop, after_wake, after_off};
-ghost use Rattle.leaf_exports.specs.LeafAnswers.{answer, of_region, of_addition, of_transition};
+ghost use Rattle.confidential_hart.specs.Transition.{stepped, after_start, after_suspend, after_stop, after_wake, after_off};
+ghost use Rattle.leaf_exports.specs.LeafAnswers.{answer, of_offer, of_region, of_addition, of_transition};
 
 use confidential_hart::{ConfidentialHart, ConfidentialHartId, HardwareHartId};
 use confidential_hart_remote_command::ConfidentialHartRemoteCommand;
 use confidential_vm_mmio_region::ConfidentialVmMmioRegion;
+use error::Error;
 
 // Whether six words are a command.
 #[unsafe(no_mangle)]
@@ -48,22 +50,23 @@ pub extern "C" fn leaf_is_queue_well_formed(queue: &[u64]) -> bool
 #[unsafe(no_mangle)]
 pub extern "C" fn leaf_offer(queue: &mut [u64], words: &[u64]) -> u64
     requires { (length queue.old ≡ queue_words) × (length words.now ≡ command_words) }
-    ensures { offer result queue.new ≡ offered queue.old (command_of words.now) }
+    ensures { answer result queue.new ≡ of_offer (offered queue.old (command_of words.now)) }
 {
     let c = ConfidentialHartRemoteCommand::from_words(words);
-    remote_commands::offer(queue, c)
+    error::number_in(remote_commands::offer(queue, c))
 }
 
-// Makes a region, and writes its base and its end.
+// Makes a region, and writes its base and its end, or 0 and 0 where it is refused.
 #[unsafe(no_mangle)]
 pub extern "C" fn leaf_new_region(region: &mut [u64], start: u64, size: u64) -> u64
     requires { length region.old ≡ region_words }
     ensures { answer result region.new ≡ of_region (new_region start size) }
 {
     let made = ConfidentialVmMmioRegion::new(start, size);
-    region[0] = made.region.base;
-    region[1] = made.region.end;
-    made.number
+    let written = made.unwrap_or_default();
+    region[0] = written.base;
+    region[1] = written.end;
+    error::number_in(made)
 }
 
 // Whether words with a count are a region table.
@@ -81,8 +84,7 @@ pub extern "C" fn leaf_add(regions: &mut [u64], count: u64, base: u64, end: u64)
     ensures { answer result regions.new ≡ of_addition (added regions.old count (region_of base end)) }
 {
     let region = ConfidentialVmMmioRegion { base, end };
-    let added = mmio_regions::add(regions, count, region);
-    added.number
+    error::number_in(mmio_regions::add(regions, count, region))
 }
 
 // Removes all regions that overlap one, and gives how many are left.
@@ -156,6 +158,16 @@ pub extern "C" fn leaf_from_vm_hart(
     hart_rows::to_words(hart, row);
 }
 
+// Leaves in a row what a transition of its hart gives, and gives its number. A refusal leaves the row as it was.
+fn leave(row: &mut [u64], step: Result<ConfidentialHart, Error>) -> u64
+    requires { length row.old ≡ hart_words }
+    ensures { answer result row.new ≡ of_transition (stepped (from_words row.old) step) }
+{
+    let hart = step.unwrap_or(hart_rows::from_words(row));
+    hart_rows::to_words(hart, row);
+    error::number_in(step)
+}
+
 // Starts the hart in a row.
 #[unsafe(no_mangle)]
 pub extern "C" fn leaf_start(row: &mut [u64], address: u64, opaque: u64) -> u64
@@ -163,8 +175,7 @@ pub extern "C" fn leaf_start(row: &mut [u64], address: u64, opaque: u64) -> u64
     ensures { answer result row.new ≡ of_transition (after_start address opaque (from_words row.old)) }
 {
     let step = hart_rows::from_words(row).transition_from_stopped_to_started(address, opaque);
-    hart_rows::to_words(step.hart, row);
-    step.number
+    leave(row, step)
 }
 
 // Suspends the hart in a row.
@@ -174,8 +185,7 @@ pub extern "C" fn leaf_suspend(row: &mut [u64]) -> u64
     ensures { answer result row.new ≡ of_transition (after_suspend (from_words row.old)) }
 {
     let step = hart_rows::from_words(row).transition_from_started_to_suspended();
-    hart_rows::to_words(step.hart, row);
-    step.number
+    leave(row, step)
 }
 
 // Stops the hart in a row.
@@ -185,8 +195,7 @@ pub extern "C" fn leaf_stop(row: &mut [u64]) -> u64
     ensures { answer result row.new ≡ of_transition (after_stop (from_words row.old)) }
 {
     let step = hart_rows::from_words(row).transition_from_started_to_stopped();
-    hart_rows::to_words(step.hart, row);
-    step.number
+    leave(row, step)
 }
 
 // Wakes the hart in a row.
@@ -196,8 +205,7 @@ pub extern "C" fn leaf_wake(row: &mut [u64], address: u64, opaque: u64) -> u64
     ensures { answer result row.new ≡ of_transition (after_wake address opaque (from_words row.old)) }
 {
     let step = hart_rows::from_words(row).transition_from_suspended_to_started(address, opaque);
-    hart_rows::to_words(step.hart, row);
-    step.number
+    leave(row, step)
 }
 
 // Powers off the hart in a row.
@@ -207,6 +215,5 @@ pub extern "C" fn leaf_off(row: &mut [u64]) -> u64
     ensures { answer result row.new ≡ of_transition (after_off (from_words row.old)) }
 {
     let step = hart_rows::from_words(row).transition_to_shutdown();
-    hart_rows::to_words(step.hart, row);
-    step.number
+    leave(row, step)
 }

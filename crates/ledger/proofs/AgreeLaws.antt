@@ -1,4 +1,5 @@
 -- After any run the tables hold what is worked out from the log. Assumes nothing.
+use Rattle.std.proofs.Common.{Ok, Err}
 use Prim.Native.Nat.{ℕ}
 use mathlib.Core.Path.{◌≡◌, refl, sym, ap, ◌∙◌, subst}
 use mathlib.Core.Bool.{Bool, true, false, ◌&&◌, ◌||◌, not, false≢true}
@@ -11,8 +12,8 @@ use Rattle.table_rows.proofs.PickLaws.{yes, no, by_pick, and_left}
 use Rattle.confidential_hart.specs.declared.ConfidentialHart.{ConfidentialHart}
 use Rattle.confidential_hart.specs.Hart.{the_vm, no_operation, hart_of}
 use Rattle.monitor_requests.specs.declared.Setup.{Setup}
-use Rattle.monitor_requests.specs.declared.Answer.{Answer}
-use Rattle.monitor_requests.specs.declared.Answer.TheVariants.{Refused, Done}
+use Rattle.monitor_requests.specs.Answers.{Answered}
+use Rattle.monitor_requests.specs.declared.Answer.TheVariants.{Done}
 use Rattle.monitor_requests.specs.Tables.{Tables, harts, sound}
 use Rattle.monitor_requests.specs.Requests.{Outcome, setup_hart, set_up, unsound, tests, effect, refused_on, performed}
 use Rattle.monitor_requests.proofs.JudgedLaws.{Passed}
@@ -42,7 +43,7 @@ setup_hart_lem s h =
     by_pick (λ (x : ConfidentialHart). x ≡ hart_of the_vm h x.lifecycle no_operation 0 0 x.registers) (eqb h s.boot) _ _ (λ _. refl) (λ _. refl)
 
 -- an accepted setup starts a log
-setup_agrees : (s : Setup) (t : Tables) → (set_up s t).answer ≡ Done → Agree (log s []) (set_up s t).after
+setup_agrees : (s : Setup) (t : Tables) → (set_up s t).answer ≡ Ok Done → Agree (log s []) (set_up s t).after
 unfolding place latest queue delivered first_copies added_until allowed
 setup_agrees s t q =
     record {
@@ -60,7 +61,7 @@ setup_agrees s t q =
 -- ---- a request
 
 -- an answer that no log hears, whatever was asked: it is a refusal, and not by 8
-abbrev pub silent : Answer → Bool
+abbrev pub silent : Answered → Bool
 silent a = not (accepted a || refused_with8 a)
 
 -- neither, so not the first either, and not the second with a third
@@ -74,26 +75,26 @@ both_not true b e = e
 both_not false b e = e
 
 -- no log hears it
-pub silent_unheard : (r : Request) (a : Answer) → silent a ≡ true → is_heard (entry r a) ≡ false
+pub silent_unheard : (r : Request) (a : Answered) → silent a ≡ true → is_heard (entry r a) ≡ false
 silent_unheard r a e = neither (accepted a) (refused_with8 a) _ e
 
 -- a refusal by a test is such an answer
-test_silent : (e : Error) → of_test e ≡ true → silent (Refused e) ≡ true
+test_silent : (e : Error) → of_test e ≡ true → silent (Err e) ≡ true
 test_silent e k = both_not (eqb (number_of e) done) (eqb (number_of e) reached_max_number_of_remote_commands) (and_left _ _ (and_left _ _ k))
 
 -- what holds of each such refusal, and of the effect where the tests are passed, holds of the outcome
-pub by_silent : (r : Request) (t : Tables) (effects : List ℕ) (P : Outcome → Type 0) → ((e : Error) → silent (Refused e) ≡ true → P (refused_on t effects e))
+pub by_silent : (r : Request) (t : Tables) (effects : List ℕ) (P : Outcome → Type 0) → ((e : Error) → silent (Err e) ≡ true → P (refused_on t effects e))
     → (Passed (unsound t ∷ tests r t effects) → P (effect r t effects))
     → P (performed r t effects)
 by_silent r t effects P refused passed =
     by_outcome r t effects P (λ _. refused TablesNotSound refl) (λ e k. refused e (test_silent e k)) passed
 
 -- what is heard of an entry
-pub heard_says : (r : Request) (a : Answer) → is_heard (entry r a) ≡ true → heard (entry r a) ≡ says r a
+pub heard_says : (r : Request) (a : Answered) → is_heard (entry r a) ≡ true → heard (entry r a) ≡ says r a
 unfolding heard
 heard_says r a e = sym (yes _ e refl)
 
-heard_nothing : (r : Request) (a : Answer) → is_heard (entry r a) ≡ false → heard (entry r a) ≡ nothing
+heard_nothing : (r : Request) (a : Answered) → is_heard (entry r a) ≡ false → heard (entry r a) ≡ nothing
 unfolding heard
 heard_nothing r a e = sym (no _ e refl)
 
@@ -102,7 +103,7 @@ abbrev Matches : Log → Tables → Type 0
 Matches l t = Holds t l.setup.harts l.setup.hardware (view_of_log l)
 
 -- an entry stands before the others, and tables that hold what it says match the log then
-one_more : (l : Log) (t : Tables) (r : Request) (a : Answer) (u : Says) → heard (entry r a) ≡ u
+one_more : (l : Log) (t : Tables) (r : Request) (a : Answered) (u : Says) → heard (entry r a) ≡ u
     → Holds t l.setup.harts l.setup.hardware (next_view a u (view_of_log l))
     → Matches (noted r a l) t
 one_more l t r a u q x =
@@ -123,10 +124,10 @@ module _ (l : Log) (t : Tables) (x : Agree l t) (effects : List ℕ) where
       }
 
   -- a refusal that is not heard
-  refused_matches : (r : Request) (e : Error) → silent (Refused e) ≡ true → Matches (noted r (Refused e) l) t
+  refused_matches : (r : Request) (e : Error) → silent (Err e) ≡ true → Matches (noted r (Err e) l) t
   refused_matches r e q =
-      one_more l t r (Refused e) nothing (heard_nothing r (Refused e) (silent_unheard r (Refused e) q))
-      (holds_same x.holds (nothing_next l.setup.harts (Refused e) (view_of_log l)))
+      one_more l t r (Err e) nothing (heard_nothing r (Err e) (silent_unheard r (Err e) q))
+      (holds_same x.holds (nothing_next l.setup.harts (Err e) (view_of_log l)))
 
   -- a request that passes its tests
   goes_on_lem : (r : Request) → Passed (unsound t ∷ tests r t effects)

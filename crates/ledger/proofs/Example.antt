@@ -1,4 +1,5 @@
 -- The rows worked out from the logs of `specs/Example.antt` are those worked out by hand, and the runs leave these logs. Assumes nothing.
+use Rattle.std.proofs.Common.{Ok}
 use mathlib.Core.Path.{◌≡◌, refl, ap, ◌∙◌, subst}
 use mathlib.Core.Bool.{true}
 use mathlib.Core.List.{List, [], ◌∷◌}
@@ -82,7 +83,7 @@ run_sure_lem (r ∷ rs) x s =
     ∙ ap (λ (o : Outcome). run_sure (reached r o x.written) rs) (sure_is r x.standing effects_room s)
 
 -- a run whose log is computed leaves that log, and the words that it leaves are the rows worked out from it
-left_so : (s : Setup) (rs : List Request) (l : Log) → (set_up s (room s)).answer ≡ Done
+left_so : (s : Setup) (rs : List Request) (l : Log) → (set_up s (room s)).answer ≡ Ok Done
     → (run_sure (begun s (room s)) rs).written ≡ l
     → Kept l (reached_from s rs).standing
 left_so s rs l accepts computed =
@@ -91,11 +92,11 @@ left_so s rs l accepts computed =
     (kept_after s (room s) accepts (asks rs))
 
 -- both setups are accepted
-p1_accepted : (set_up p1_setup (room p1_setup)).answer ≡ Done
+p1_accepted : (set_up p1_setup (room p1_setup)).answer ≡ Ok Done
 unfolding set_up setup_tests pick long_enough
 p1_accepted = refl
 
-busy_accepted : (set_up busy_setup (room busy_setup)).answer ≡ Done
+busy_accepted : (set_up busy_setup (room busy_setup)).answer ≡ Ok Done
 unfolding set_up setup_tests pick long_enough
 busy_accepted = refl
 

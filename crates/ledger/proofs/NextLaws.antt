@@ -15,7 +15,7 @@ use Rattle.confidential_hart.specs.declared.ConfidentialHart.{ConfidentialHart}
 use Rattle.confidential_hart.specs.Hart.{no_operation, with_operation}
 use Rattle.confidential_hart.specs.Transition.{moved}
 use Rattle.monitor_requests.specs.declared.Setup.{Setup}
-use Rattle.monitor_requests.specs.declared.Answer.{Answer}
+use Rattle.monitor_requests.specs.Answers.{Answered}
 use Rattle.monitor_requests.specs.Tables.{Tables}
 use Rattle.monitor_requests.proofs.TellLaws.{after_doing}
 use Rattle.hart_standing.specs.Standing.{Standing}
@@ -72,7 +72,7 @@ same_then x y =
 
 -- ---- the view after a request that is answered so
 
-abbrev pub next_view : Answer → Says → View → View
+abbrev pub next_view : Answered → Says → View → View
 next_view a u v =
     view (λ h. next_standing u.move h (v.stands h))
     (λ h. pick (is_who u.who (v.stands h) h) (changed u (v.waits h) h (v.hart h)) (v.hart h))
@@ -100,7 +100,7 @@ every_same f g (suc n) e = rw (every_same f g n (λ i l. e i (omega arith)), e n
 
 module _ (n : ℕ) (v w : View) (e : Same n v w) where
   -- a broadcast reaches the same harts
-  reaches_same : (a : Answer) (who : Who) (c : ConfidentialHartRemoteCommand) (h : ℕ) → h < n → reaches a who c v h ≡ reaches a who c w h
+  reaches_same : (a : Answered) (who : Who) (c : ConfidentialHartRemoteCommand) (h : ℕ) → h < n → reaches a who c v h ≡ reaches a who c w h
   reaches_same a who c h l =
       rw (gets h l)
       (ap (λ (b : Bool). receives c (is_who who (w.stands h) h) (w.stands h) (w.hart h).lifecycle h && (accepted a || b))
@@ -112,7 +112,7 @@ module _ (n : ℕ) (v w : View) (e : Same n v w) where
       gets g b = rw (e.stands_same g b, e.hart_same g b) refl
 
   -- what is said makes equal views equal
-  pub next_same : (a : Answer) (u : Says) → Same n (next_view a u v) (next_view a u w)
+  pub next_same : (a : Answered) (u : Says) → Same n (next_view a u v) (next_view a u w)
   next_same a u =
       record {
         stands_same = λ h l. ap (next_standing u.move h) (e.stands_same h l);
@@ -144,7 +144,7 @@ pub same_regions : (rs : List ConfidentialVmMmioRegion) → rs ≡ unremoved [] 
 same_regions rs = sym (append-nil (unremoved [] rs) ∙ unremoved_none rs)
 
 -- of no hart: moves, regions and the mask alone change
-pub saying_next : (n : ℕ) (a : Answer) (move : Move) (adds removes : List ConfidentialVmMmioRegion) (bits : Option ℕ) (v : View)
+pub saying_next : (n : ℕ) (a : Answered) (move : Move) (adds removes : List ConfidentialVmMmioRegion) (bits : Option ℕ) (v : View)
     (regions : List ConfidentialVmMmioRegion) (mask : ℕ) → regions ≡ unremoved removes v.regions ++ adds → mask ≡ joined bits v.allowed
     → Same n (view (λ h. next_standing move h (v.stands h)) v.hart v.waits regions mask) (next_view a (saying move adds removes bits) v)
 unfolding pick
@@ -152,17 +152,17 @@ saying_next n a move adds removes bits v regions mask p q =
     record { stands_same = λ h l. refl; hart_same = λ h l. refl; waits_same = λ h l. refl; regions_same = p; allowed_same = q }
 
 -- a move alone
-pub moving_next : (n : ℕ) (a : Answer) (move : Move) (v : View)
+pub moving_next : (n : ℕ) (a : Answered) (move : Move) (v : View)
     → Same n (standing_at (λ h. next_standing move h (v.stands h)) v) (next_view a (moving move) v)
 moving_next n a move v =
     saying_next n a move [] [] none v v.regions v.allowed (same_regions v.regions) refl
 
 -- nothing at all
-pub nothing_next : (n : ℕ) (a : Answer) (v : View) → Same n v (next_view a nothing v)
+pub nothing_next : (n : ℕ) (a : Answered) (v : View) → Same n v (next_view a nothing v)
 nothing_next n a v = moving_next n a stays v
 
 -- of one hart: its record and the queues alone change
-pub of_hart_next : (n : ℕ) (a : Answer) (who : Who) (lifecycle : Option ℕ) (registers : List ℕ → List ℕ) (wait : Option Wait) (empties : Bool)
+pub of_hart_next : (n : ℕ) (a : Answered) (who : Who) (lifecycle : Option ℕ) (registers : List ℕ → List ℕ) (wait : Option Wait) (empties : Bool)
     (does sends : Option ConfidentialHartRemoteCommand) (v : View)
     → Same n
     (having (λ h. pick (is_who who (v.stands h) h) (changed (of_hart who lifecycle registers wait empties does sends) (v.waits h) h (v.hart h)) (v.hart h))
@@ -178,7 +178,7 @@ of_hart_next n a who lifecycle registers wait empties does sends v =
       allowed_same = refl;
     }
 
-module _ (n : ℕ) (a : Answer) (who : Who) (v : View) where
+module _ (n : ℕ) (a : Answered) (who : Who) (v : View) where
   -- a new lifecycle and other registers
   pub changing_next : (state : ℕ) (registers : List ℕ → List ℕ)
       → Same n
@@ -241,7 +241,7 @@ module _ (n : ℕ) (a : Answer) (who : Who) (v : View) where
       (of_hart_next n a who none unchanged none false none (some c) v)
 
 -- every queued command is done, and an operation that is answered is taken
-pub resuming_next : (n : ℕ) (a : Answer) (who : Who) (v : View)
+pub resuming_next : (n : ℕ) (a : Answered) (who : Who) (v : View)
     → Same n
     (having (λ h. pick (is_who who (v.stands h) h) (pick (is_taken a) (with_operation no_operation 0 0 (after_doing (v.waits h) (v.hart h))) (after_doing (v.waits h) (v.hart h))) (v.hart h))
     (λ h. pick (is_who who (v.stands h) h) [] (v.waits h))
@@ -259,7 +259,7 @@ resuming_next n a who v =
     })
     (of_hart_next n a who none unchanged (taken a) true none none v)
   where
-    took : (b : Answer) (h : ℕ)
+    took : (b : Answered) (h : ℕ)
         → pick (is_taken b) (with_operation no_operation 0 0 (after_doing (v.waits h) (v.hart h))) (after_doing (v.waits h) (v.hart h))
         ≡ changed (emptying who (taken b)) (v.waits h) h (v.hart h)
     took b h = by_test (is_taken b) (λ e. rw e) (λ e. rw e)

@@ -14,7 +14,7 @@ use Rattle.confidential_hart_remote_command.specs.declared.ConfidentialHartRemot
 use Rattle.confidential_hart.specs.declared.ConfidentialHart.{ConfidentialHart}
 use Rattle.confidential_hart.specs.Hart.{hart_of}
 use Rattle.monitor_requests.specs.declared.Setup.{Setup}
-use Rattle.monitor_requests.specs.declared.Answer.{Answer}
+use Rattle.monitor_requests.specs.Answers.{Answered}
 use Rattle.hart_standing.specs.Standing.{Standing, at_home, on_hardware}
 use Rattle.hart_standing.proofs.ChangedLaws.{View, view}
 use Rattle.ledger.specs.Log.{Entry, Log, log, Move, stays, steals, returns, Who, wait_for, Says, is_some, heard}
@@ -122,7 +122,7 @@ copies_next none gets before = refl
 copies_next (some c) gets before = by_test (gets c) (λ b. rw b refl) (λ b. rw b refl)
 
 -- whether a broadcast that is answered so delivers c to hart h, by where harts stand, their records and their commands
-abbrev pub reaches : Answer → Who → ConfidentialHartRemoteCommand → View → ℕ → Bool
+abbrev pub reaches : Answered → Who → ConfidentialHartRemoteCommand → View → ℕ → Bool
 reaches a who c v h =
     delivers a (λ g. receives c (is_who who (v.stands g) g) (v.stands g) (v.hart g).lifecycle g) (λ g. full (v.waits g)) h
 

@@ -11,7 +11,7 @@ use Rattle.table_rows.proofs.ExistsLaws.{exists_of}
 use Rattle.confidential_hart_remote_command.specs.declared.ConfidentialHartRemoteCommand.{ConfidentialHartRemoteCommand}
 use Rattle.effects.specs.Effects.{effects_of}
 use Rattle.monitor_requests.specs.declared.Request.{Request}
-use Rattle.monitor_requests.specs.declared.Answer.{Answer}
+use Rattle.monitor_requests.specs.Answers.{Answered}
 use Rattle.monitor_requests.specs.Requests.{Outcome, does_no_command}
 use Rattle.ledger.specs.Log.{Entry, entry, Log, Says, is_heard, heard}
 use Rattle.ledger.specs.WorkedOut.{about, done_by}
@@ -19,7 +19,7 @@ use Rattle.ledger.specs.Statement.{does_then, RecordsOf, RecordsAre}
 use Rattle.ledger.proofs.StepLaws.{plain_says}
 
 -- so no hart does one by its entry, be it heard or not
-pub plain_does : (r : Request) (a : Answer) → does_no_command r ≡ true → (waiting : List ConfidentialHartRemoteCommand) (h : ℕ)
+pub plain_does : (r : Request) (a : Answered) → does_no_command r ≡ true → (waiting : List ConfidentialHartRemoteCommand) (h : ℕ)
     → done_by (heard (entry r a)) waiting h ≡ []
 unfolding heard pick
 plain_does r a e waiting h =

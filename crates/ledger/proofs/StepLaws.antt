@@ -1,5 +1,6 @@
 -- What a request does to the tables is what its entry of the log says, request by request. Every list of the requests that the theorem needs
 -- stands here. Assumes nothing.
+use Rattle.std.proofs.Common.{Ok, Err}
 use Prim.Native.Nat.{ℕ, ◌+◌, ◌<◌}
 use mathlib.Core.Path.{◌≡◌, refl, sym, ap, ◌∙◌}
 use mathlib.Core.Bool.{Bool, true, ◌&&◌, ◌||◌, not, false≢true}
@@ -19,9 +20,8 @@ use Rattle.hart_lifecycle_state.specs.Lifecycle.{started, stopped, suspended, po
 use Rattle.confidential_hart.specs.Hart.{is_dummy, is_executable}
 use Rattle.confidential_hart.specs.HartStart.{start_registers, wake_registers}
 use Rattle.monitor_requests.specs.declared.Request.TheVariants.{Steal, Return, Start, Suspend, Stop, Wake, Off, Await, Status, Home, Send, Allow, Add, Remove, Defined, Broadcast, Process, Resume}
-use Rattle.monitor_requests.specs.declared.Answer.{Answer}
-use Rattle.monitor_requests.specs.declared.Answer.TheVariants.{Refused, Done}
-use Rattle.monitor_requests.specs.Answers.{given}
+use Rattle.monitor_requests.specs.declared.Answer.TheVariants.{Done}
+use Rattle.monitor_requests.specs.Answers.{Answered, given}
 use Rattle.monitor_requests.specs.Tables.{Tables, harts, hardware_harts, allowed, home_hart, regions_of, sound}
 use Rattle.confidential_vm_mmio_region.specs.Region.{region_from}
 use Rattle.monitor_requests.specs.Requests as requests
@@ -60,7 +60,7 @@ module _ (t : Tables) (s : sound t ≡ true) (sender : ℕ) (who : Who) (c : Con
       ∙ ap (λ (b : Bool). selects c g && not (is_who who (standing t g) g) && b) (runs t s g l)
 
   -- and so it gets the command exactly when the log says so
-  delivers_now_lem : (a : Answer) (h : ℕ) → h < harts t → delivers_now a t sender c h ≡ reaches a who c (view_of t) h
+  delivers_now_lem : (a : Answered) (h : ℕ) → h < harts t → delivers_now a t sender c h ≡ reaches a who c (view_of t) h
   delivers_now_lem a h l =
       rw (receives_now h l)
       (ap
@@ -105,17 +105,17 @@ said_holds (Return k) t effects s p =
       regions_same = refl;
       allowed_same = refl;
     })
-    (moving_next (harts t) Done (returns k.0) (view_of t)))
+    (moving_next (harts t) (Ok Done) (returns k.0) (view_of t)))
 said_holds (Start h address opaque) t effects s p =
-    holds_same (start_holds h address opaque t effects p) (changing_next (harts t) Done (hart_numbered h.0) (view_of t) started (start_registers h.0 address opaque))
+    holds_same (start_holds h address opaque t effects p) (changing_next (harts t) (Ok Done) (hart_numbered h.0) (view_of t) started (start_registers h.0 address opaque))
 said_holds (Suspend k) t effects s p =
-    holds_same (suspend_holds k t effects p) (changing_next (harts t) Done (held_by k.0) (view_of t) suspended (λ g. g))
-said_holds (Stop k) t effects s p = holds_same (stop_holds k t effects p) (changing_next (harts t) Done (held_by k.0) (view_of t) stopped (λ g. g))
+    holds_same (suspend_holds k t effects p) (changing_next (harts t) (Ok Done) (held_by k.0) (view_of t) suspended (λ g. g))
+said_holds (Stop k) t effects s p = holds_same (stop_holds k t effects p) (changing_next (harts t) (Ok Done) (held_by k.0) (view_of t) stopped (λ g. g))
 said_holds (Wake k address opaque) t effects s p =
-    holds_same (wake_holds k address opaque t effects p) (changing_next (harts t) Done (held_by k.0) (view_of t) started (wake_registers address opaque))
-said_holds (Off k) t effects s p = holds_same (off_holds k t effects p) (changing_next (harts t) Done (held_by k.0) (view_of t) powered_off (λ g. g))
+    holds_same (wake_holds k address opaque t effects p) (changing_next (harts t) (Ok Done) (held_by k.0) (view_of t) started (wake_registers address opaque))
+said_holds (Off k) t effects s p = holds_same (off_holds k t effects p) (changing_next (harts t) (Ok Done) (held_by k.0) (view_of t) powered_off (λ g. g))
 said_holds (Await k kind x y) t effects s p =
-    holds_same (await_holds k kind x y t effects p) (waiting_next (harts t) Done (held_by k.0) (view_of t) kind x y)
+    holds_same (await_holds k kind x y t effects p) (waiting_next (harts t) (Ok Done) (held_by k.0) (view_of t) kind x y)
 said_holds (Status h) t effects s p = holds_same (as_it_is t) (nothing_next (harts t) (effect (Status h) t effects).answer (view_of t))
 said_holds Home t effects s p = holds_same (as_it_is t) (nothing_next (harts t) (effect Home t effects).answer (view_of t))
 said_holds (Send sender c) t effects s p =
@@ -132,14 +132,14 @@ said_holds (Send sender c) t effects s p =
     (sending_next (harts t) a (hart_numbered sender) (view_of t) c))
 said_holds (Allow bits) t effects s p =
     holds_same (allow_holds bits t effects p)
-    (saying_next (harts t) Done stays [] [] (some bits) (view_of t) (regions_of t) (bit_or (allowed t) bits) (same_regions (regions_of t)) refl)
+    (saying_next (harts t) (Ok Done) stays [] [] (some bits) (view_of t) (regions_of t) (bit_or (allowed t) bits) (same_regions (regions_of t)) refl)
 said_holds (Add base size) t effects s p =
     holds_same (add_holds base size t effects p)
-    (saying_next (harts t) Done stays (region_from base size ∷ []) [] none (view_of t) _ (allowed t)
+    (saying_next (harts t) (Ok Done) stays (region_from base size ∷ []) [] none (view_of t) _ (allowed t)
     (ap (λ rs. rs ++ (region_from base size ∷ [])) (sym (unremoved_none (regions_of t)))) refl)
 said_holds (Remove base size) t effects s p =
     holds_same (remove_holds base size t effects p)
-    (saying_next (harts t) Done stays [] (region_from base size ∷ []) none (view_of t) _ (allowed t)
+    (saying_next (harts t) (Ok Done) stays [] (region_from base size ∷ []) none (view_of t) _ (allowed t)
     (sym (append-nil _ ∙ unremoved_one (region_from base size) (regions_of t))) refl)
 said_holds (Defined base size) t effects s p = holds_same (as_it_is t) (nothing_next (harts t) (effect (Defined base size) t effects).answer (view_of t))
 said_holds (Broadcast k c) t effects s p =
@@ -166,9 +166,9 @@ said_holds (Resume k) t effects s p =
 -- ---- what is heard of them
 
 -- an answer of a broadcast is heard where it refuses by 8 alone
-sent_heard : (a : Answer) → ((e : Error) → a ≡ Refused e → e ≡ ReachedMaxNumberOfRemoteCommands) → accepted a || refused_with8 a && true ≡ true
+sent_heard : (a : Answered) → ((e : Error) → a ≡ Err e → e ≡ ReachedMaxNumberOfRemoteCommands) → accepted a || refused_with8 a && true ≡ true
 sent_heard =
-    by_refusal (λ a. ((e : Error) → a ≡ Refused e → e ≡ ReachedMaxNumberOfRemoteCommands) → accepted a || refused_with8 a && true ≡ true)
+    by_refusal (λ a. ((e : Error) → a ≡ Err e → e ≡ ReachedMaxNumberOfRemoteCommands) → accepted a || refused_with8 a && true ≡ true)
     (λ e only. rw (only e refl) refl)
     (λ a d only. rw d)
 
@@ -201,7 +201,7 @@ effect_heard (Resume k) t effects p =
     (λ _ _. refl)
 
 -- by a request that does no command no hart does one
-pub plain_says : (r : Request) (a : Answer) → does_no_command r ≡ true → (waiting : List ConfidentialHartRemoteCommand) (h : ℕ) → done_by (says r a) waiting h ≡ []
+pub plain_says : (r : Request) (a : Answered) → does_no_command r ≡ true → (waiting : List ConfidentialHartRemoteCommand) (h : ℕ) → done_by (says r a) waiting h ≡ []
 unfolding says pick
 plain_says (Steal hart on) a e waiting h = refl
 plain_says (Return on) a e waiting h = refl

@@ -1,4 +1,5 @@
 -- The theorem: what a run of the entries leaves is kept, as `specs/Statement.antt` says. Assumes nothing.
+use Rattle.std.proofs.Common.{Ok, Err}
 use Prim.Native.Nat.{ℕ, zero, suc, ◌<◌, ◌≤◌}
 use mathlib.Core.Path.{◌≡◌, refl, sym, ap, ap₂, ◌∙◌, subst}
 use mathlib.Core.Logic.{◌≢◌}
@@ -23,8 +24,8 @@ use Rattle.hart_rows.specs.HartRows.{to_words, hart_at}
 use Rattle.monitor_requests.specs.declared.Setup.{Setup}
 use Rattle.monitor_requests.specs.declared.Request.{Request}
 use Rattle.monitor_requests.specs.declared.Request.TheVariants.{Send, Broadcast, Process, Resume}
-use Rattle.monitor_requests.specs.declared.Answer.{Answer}
-use Rattle.monitor_requests.specs.declared.Answer.TheVariants.{Refused, Done, Mask, Count}
+use Rattle.monitor_requests.specs.Answers.{Answered}
+use Rattle.monitor_requests.specs.declared.Answer.TheVariants.{Done, Mask, Count}
 use Rattle.monitor_requests.specs.Tables.{Tables, harts, hardware_harts, home_hart, hardware_hart, queue}
 use Rattle.monitor_requests.specs.Requests as requests
 use Rattle.monitor_requests.specs.Requests.{Outcome, refused_on, fresh, setup_tests, set_up, unsound, performed, answering, held_id, tests, processed, Going, goes_on, held_commands, own_commands, effect}
@@ -55,38 +56,38 @@ use Rattle.ledger.proofs.RecordLaws.{no_records, own_records, plain_does, unhear
 
 -- a broadcast that gives a mask is of a held hart
 mask_held : (k : HardwareHartId) (c : ConfidentialHartRemoteCommand) (t : Tables) (effects : List ℕ) (mask : ℕ)
-    → (performed (Broadcast k c) t effects).answer ≡ Mask mask → Held t k.0
+    → (performed (Broadcast k c) t effects).answer ≡ Ok (Mask mask) → Held t k.0
 mask_held k c t effects mask =
-    by_performed (Broadcast k c) t effects (λ (o : Outcome). o.answer ≡ Mask mask → Held t k.0) (λ _ q. absurd (false≢true (ap is_mask q)))
+    by_performed (Broadcast k c) t effects (λ (o : Outcome). o.answer ≡ Ok (Mask mask) → Held t k.0) (λ _ q. absurd (false≢true (ap is_mask q)))
     (λ p _. broadcast_held k c t effects p)
 
 -- 8 is not silent
-eight_heard : (e : Error) → silent (Refused e) ≡ true → ◌≢◌ {A = Answer} (Refused e) (Refused ReachedMaxNumberOfRemoteCommands)
+eight_heard : (e : Error) → silent (Err e) ≡ true → ◌≢◌ {A = Answered} (Err e) (Err ReachedMaxNumberOfRemoteCommands)
 eight_heard e q is = false≢true (sym (ap silent is) ∙ q)
 
 -- a broadcast that gives 8 is of a held hart too
 eight_held : (k : HardwareHartId) (c : ConfidentialHartRemoteCommand) (t : Tables) (effects : List ℕ)
-    → (performed (Broadcast k c) t effects).answer ≡ Refused ReachedMaxNumberOfRemoteCommands → Held t k.0
+    → (performed (Broadcast k c) t effects).answer ≡ Err ReachedMaxNumberOfRemoteCommands → Held t k.0
 eight_held k c t effects =
-    by_silent (Broadcast k c) t effects (λ (o : Outcome). o.answer ≡ Refused ReachedMaxNumberOfRemoteCommands → Held t k.0)
+    by_silent (Broadcast k c) t effects (λ (o : Outcome). o.answer ≡ Err ReachedMaxNumberOfRemoteCommands → Held t k.0)
     (λ e unheard q. absurd (eight_heard e unheard q))
     (λ p _. broadcast_held k c t effects p)
 
 -- 8 is given to a request that sends a command
-eight_sends : (r : Request) (t : Tables) (effects : List ℕ) → (performed r t effects).answer ≡ Refused ReachedMaxNumberOfRemoteCommands
+eight_sends : (r : Request) (t : Tables) (effects : List ℕ) → (performed r t effects).answer ≡ Err ReachedMaxNumberOfRemoteCommands
     → is_some (says r (performed r t effects).answer).sends ≡ true
 eight_sends r t effects =
-    by_silent r t effects (λ (o : Outcome). o.answer ≡ Refused ReachedMaxNumberOfRemoteCommands → is_some (says r o.answer).sends ≡ true)
+    by_silent r t effects (λ (o : Outcome). o.answer ≡ Err ReachedMaxNumberOfRemoteCommands → is_some (says r o.answer).sends ≡ true)
     (λ e unheard q. absurd (eight_heard e unheard q))
     (λ p q. rw q (rw q at (effect_heard r t effects p)))
 
 -- a refusal that is not heard changes nothing
-refusal_alone : (r : Request) (t : Tables) (effects : List ℕ) (e : Error) → (performed r t effects).answer ≡ Refused e → is_heard (entry r (Refused e)) ≡ false
+refusal_alone : (r : Request) (t : Tables) (effects : List ℕ) (e : Error) → (performed r t effects).answer ≡ Err e → is_heard (entry r (Err e)) ≡ false
     → performed r t effects ≡ refused_on t effects e
 refusal_alone r t effects e =
-    by_performed r t effects (λ (o : Outcome). o.answer ≡ Refused e → is_heard (entry r (Refused e)) ≡ false → o ≡ refused_on t effects e)
-    (λ _ q _. ap (λ (a : Answer). answering a t effects) q)
-    (λ p q unheard. absurd (false≢true (sym unheard ∙ ap (λ (a : Answer). is_heard (entry r a)) (sym q) ∙ effect_heard r t effects p)))
+    by_performed r t effects (λ (o : Outcome). o.answer ≡ Err e → is_heard (entry r (Err e)) ≡ false → o ≡ refused_on t effects e)
+    (λ _ q _. ap (λ (a : Answered). answering a t effects) q)
+    (λ p q unheard. absurd (false≢true (sym unheard ∙ ap (λ (a : Answered). is_heard (entry r a)) (sym q) ∙ effect_heard r t effects p)))
 
 -- what a hart goes on with, by its record
 going_answer : (held : List ℕ) (k : ℕ)
@@ -220,7 +221,7 @@ module _ (l : Log) (t : Tables) (x : Agree l t) where
   -- ---- what is asked next
 
   -- 12 is never the answer
-  never_12 : (r : Request) (effects : List ℕ) → (performed r t effects).answer ≢ Refused TablesNotSound
+  never_12 : (r : Request) (effects : List ℕ) → (performed r t effects).answer ≢ Err TablesNotSound
   never_12 r effects e = false≢true (sym ((twelve_exactly r t effects).0 e) ∙ x.tables_sound)
 
   -- the hart that hardware hart k holds stands on it, by the log
@@ -235,7 +236,7 @@ module _ (l : Log) (t : Tables) (x : Agree l t) where
       }
 
   -- a process counts the commands of that hart
-  counted : (effects : List ℕ) (k : HardwareHartId) (count : ℕ) → (performed (Process k) t effects).answer ≡ Count count → CountOf k.0 l count
+  counted : (effects : List ℕ) (k : HardwareHartId) (count : ℕ) → (performed (Process k) t effects).answer ≡ Ok (Count count) → CountOf k.0 l count
   counted effects k count q =
       let y = process_count k t effects count q in
       let h : ℕ = held_id t k.0 in
@@ -272,7 +273,7 @@ module _ (l : Log) (t : Tables) (x : Agree l t) where
       → ResumeOf k.0 l (performed (Resume k) t effects).answer
   resumed effects k =
       by_silent (Resume k) t effects (λ (o : Outcome). accepted o.answer ≡ true → ResumeOf k.0 l o.answer)
-      (λ e unheard is. absurd (false≢true (sym (ap (λ (b : Bool). not (b || refused_with8 (Refused e))) is) ∙ unheard)))
+      (λ e unheard is. absurd (false≢true (sym (ap (λ (b : Bool). not (b || refused_with8 (Err e))) is) ∙ unheard)))
       (λ p _. resumed_effect effects k p)
 
   -- ---- the effect records
@@ -292,15 +293,15 @@ module _ (l : Log) (t : Tables) (x : Agree l t) where
       did)
 
   -- a request that is refused leaves none, and one that passes its tests those of its hart
-  either_records : (r : Request) (effects : List ℕ) (k : ℕ) → ((a : Answer) → (says r a).who ≡ held_by k)
+  either_records : (r : Request) (effects : List ℕ) (k : ℕ) → ((a : Answered) → (says r a).who ≡ held_by k)
       → (Passed (unsound t ∷ tests r t effects) → Held t k)
       → RecordsOf (held_id t k) (done_by (says r (effect r t effects).answer) (held_commands t k) (held_id t k)) effects (effect r t effects)
       → RecordsAre l (entry r (performed r t effects).answer) effects (performed r t effects)
   either_records r effects k who held did =
       by_silent r t effects (λ (o : Outcome). RecordsAre l (entry r o.answer) effects o)
       (λ e unheard.
-      let q = entry r (Refused e) in
-      no_records l q effects (refused_on t effects e) (unheard_does q (silent_unheard r (Refused e) unheard) l) refl refl)
+      let q = entry r (Err e) in
+      no_records l q effects (refused_on t effects e) (unheard_does q (silent_unheard r (Err e) unheard) l) refl refl)
       (λ p.
       let a = (effect r t effects).answer in
       held_records (entry r a) effects (effect r t effects) k (held p) (says r a) (heard_says r a (effect_heard r t effects p)) (who a) did)
@@ -414,13 +415,13 @@ module _ (l : Log) (t : Tables) (x : Agree l t) where
         resumed = λ k is a. resumed_so k is a;
       }
     where
-      given_so : {a : Answer} → o.answer ≡ a → (performed request t effects).answer ≡ a
+      given_so : {a : Answered} → o.answer ≡ a → (performed request t effects).answer ≡ a
       given_so q = sym (ap (λ (z : Outcome). z.answer) p) ∙ q
 
-      asked_so : {r : Request} {a : Answer} → request ≡ r → o.answer ≡ a → (performed r t effects).answer ≡ a
+      asked_so : {r : Request} {a : Answered} → request ≡ r → o.answer ≡ a → (performed r t effects).answer ≡ a
       asked_so is q = sym (ap (λ (r : Request). (performed r t effects).answer) is) ∙ given_so q
 
-      sent_so : (sender : ℕ) (c : ConfidentialHartRemoteCommand) {a : Answer} → request ≡ Send sender c → o.answer ≡ a
+      sent_so : (sender : ℕ) (c : ConfidentialHartRemoteCommand) {a : Answered} → request ≡ Send sender c → o.answer ≡ a
           → (performed (Send sender c) t effects).answer ≡ a
       sent_so sender c is q = asked_so is q
 
@@ -454,12 +455,12 @@ kept l t run =
 left_again : (s : Setup) (l : Log) (t : Tables) → Left l t → Left (reached_again s (set_up s t) l).written (set_up s t).after
 unfolding set_up setup_tests all_of pick
 left_again s l t left =
-    by_errors (refused_on t []) (answering Done (fresh s t) []) (λ (o : Outcome). o ≡ set_up s t → Left (reached_again s o l).written o.after)
-    (λ e. not (accepted (Refused e)))
-    (λ e refused _. let q : accepted (Refused e) ≡ false = not-true _ refused in rw q left)
+    by_errors (refused_on t []) (answering (Ok Done) (fresh s t) []) (λ (o : Outcome). o ≡ set_up s t → Left (reached_again s o l).written o.after)
+    (λ e. not (accepted (Err e)))
+    (λ e refused _. let q : accepted (Err e) ≡ false = not-true _ refused in rw q left)
     (setup_tests s t)
     refl
-    (λ _ is. begins s t (answering Done (fresh s t) []) is refl)
+    (λ _ is. begins s t (answering (Ok Done) (fresh s t) []) is refl)
     refl
 
 -- requests one after the other go on with a run
@@ -470,7 +471,7 @@ run_left (ask request effects ∷ more) x left =
     run_left more _ (asked x.written x.standing left request effects (performed request x.standing effects) refl)
 
 -- the same for a list of requests: from an accepted setup on lent tables, after any of them, with any effects room each
-pub kept_after : (s : Setup) (lent : Tables) → (set_up s lent).answer ≡ Done → (more : List Ask)
+pub kept_after : (s : Setup) (lent : Tables) → (set_up s lent).answer ≡ Ok Done → (more : List Ask)
     → Kept (reached_by more (begun s lent)).written (reached_by more (begun s lent)).standing
 kept_after s lent done more = kept _ _ (run_left more (begun s lent) (begins s lent (set_up s lent) refl done))
 

@@ -1,5 +1,5 @@
 -- Logs with their rows worked out by hand: document 01's run P1, a run in which much happens, and its case P9.
-use Rattle.std.specs.Prelude.{ℕ, zero, suc, ◌*◌, List, [], ◌∷◌, ◌++◌, length, replicate}
+use Rattle.std.specs.Prelude.{Ok, Err, ℕ, zero, suc, ◌*◌, List, [], ◌∷◌, ◌++◌, length, replicate}
 use Rattle.error.specs.declared.Error.TheVariants.{HartAlreadyRunning, HartNotExecutable, ReachedMaxNumberOfRemoteCommands}
 use Rattle.table_rows.specs.Lists.{up_to}
 use Rattle.confidential_vm_mmio_region.specs.declared.ConfidentialVmMmioRegion.{ConfidentialVmMmioRegion}
@@ -17,7 +17,7 @@ use Rattle.hart_rows.specs.HartRows.{hart_words}
 use Rattle.monitor_requests.specs.declared.Setup.{Setup}
 use Rattle.monitor_requests.specs.FromNumbers.{hart_id, hardware_hart_id, setup_of, command_of}
 use Rattle.monitor_requests.specs.declared.Request.TheVariants.{Steal, Return, Start, Stop, Await, Send, Allow, Add, Remove, Broadcast, Process, Resume}
-use Rattle.monitor_requests.specs.declared.Answer.TheVariants.{Refused, Done, Mask, Count, Run, PoweredOff}
+use Rattle.monitor_requests.specs.declared.Answer.TheVariants.{Done, Mask, Count, Run, PoweredOff}
 use Rattle.monitor_requests.specs.Tables.{Tables, tables, head_words}
 use Rattle.monitor_requests.specs.declared.Request.{Request}
 use Rattle.ledger.specs.Log.{Entry, entry, Log, log}
@@ -147,13 +147,13 @@ p1_requests =
 -- the first seven with the answers that document 01 gives, the newest first
 unfoldable pub p1_first : List Entry
 p1_first =
-    entry (broadcast 0 ipi_to_both) (Mask 2)
-    ∷ entry (steal 1 1) (Mask 0)
-    ∷ entry (broadcast 0 ipi_to_both) (Mask 0)
-    ∷ entry (start 1 64 7) Done
-    ∷ entry (steal 1 1) (Refused HartNotExecutable)
-    ∷ entry (steal 0 1) (Refused HartAlreadyRunning)
-    ∷ entry (steal 0 0) (Mask 0)
+    entry (broadcast 0 ipi_to_both) (Ok (Mask 2))
+    ∷ entry (steal 1 1) (Ok (Mask 0))
+    ∷ entry (broadcast 0 ipi_to_both) (Ok (Mask 0))
+    ∷ entry (start 1 64 7) (Ok Done)
+    ∷ entry (steal 1 1) (Err HartNotExecutable)
+    ∷ entry (steal 0 1) (Err HartAlreadyRunning)
+    ∷ entry (steal 0 0) (Ok (Mask 0))
     ∷ []
 
 -- the log before hart 1 resumes
@@ -162,7 +162,7 @@ p1_before_resume = log p1_setup p1_first
 
 -- the log of the whole run
 abbrev pub p1 : Log
-p1 = log p1_setup (entry (return 0) Done ∷ entry (resume 1) Run ∷ p1_first)
+p1 = log p1_setup (entry (return 0) (Ok Done) ∷ entry (resume 1) (Ok Run) ∷ p1_first)
 
 -- hart 0 is as it booted: Started, with a0, a1, mepc, vsatp, mstatus and vsstatus of the setup
 abbrev pub hart_0 : ConfidentialHart
@@ -211,27 +211,27 @@ shutdown = command_of shutdown_request 0 0 0 0 0
 unfoldable pub busy_answered : List Entry
 busy_answered =
     -- both bits are allowed from then on
-    entry (allow 1) Done
-    ∷ entry (allow 4) Done
+    entry (allow 1) (Ok Done)
+    ∷ entry (allow 4) (Ok Done)
     -- the second region is removed; the first, which touches it, stays, and a third goes last
-    ∷ entry (add 4096 4096) Done
-    ∷ entry (add 8192 4096) Done
-    ∷ entry (remove 8192 4096) Done
-    ∷ entry (add 0 4096) Done
+    ∷ entry (add 4096 4096) (Ok Done)
+    ∷ entry (add 8192 4096) (Ok Done)
+    ∷ entry (remove 8192 4096) (Ok Done)
+    ∷ entry (add 0 4096) (Ok Done)
     -- hart 0 and hart 1 run; hart 1 stops itself
-    ∷ entry (start 1 64 7) Done
-    ∷ entry (steal 0 0) (Mask 5)
-    ∷ entry (steal 1 1) (Mask 5)
-    ∷ entry (stop 1) Done
+    ∷ entry (start 1 64 7) (Ok Done)
+    ∷ entry (steal 0 0) (Ok (Mask 5))
+    ∷ entry (steal 1 1) (Ok (Mask 5))
+    ∷ entry (stop 1) (Ok Done)
     -- hart 0 does the fence itself; hart 1, stopped but stolen, gets it, and does it; hart 2 was never started
-    ∷ entry (broadcast 0 fence_all) (Mask 2)
-    ∷ entry (process 1) (Count 1)
+    ∷ entry (broadcast 0 fence_all) (Ok (Mask 2))
+    ∷ entry (process 1) (Ok (Count 1))
     -- hart 0 waits for an operation and is then powered off by its own shutdown: the operation is not taken
-    ∷ entry (await 0 3 5 6) Done
-    ∷ entry (broadcast 0 shutdown) (Mask 2)
-    ∷ entry (resume 0) PoweredOff
+    ∷ entry (await 0 3 5 6) (Ok Done)
+    ∷ entry (broadcast 0 shutdown) (Ok (Mask 2))
+    ∷ entry (resume 0) (Ok PoweredOff)
     -- hart 1 goes home
-    ∷ entry (return 1) Done
+    ∷ entry (return 1) (Ok Done)
     ∷ []
 
 -- the requests of entries, in their order
@@ -264,14 +264,14 @@ busy_table =
 -- n different fences for hart 2, the newest first
 abbrev pub fences_for_hart2 : ℕ → List Entry
 fences_for_hart2 zero = []
-fences_for_hart2 (suc n) = entry (send 9 (fence 4 n)) (Mask 0) ∷ fences_for_hart2 n
+fences_for_hart2 (suc n) = entry (send 9 (fence 4 n)) (Ok (Mask 0)) ∷ fences_for_hart2 n
 
 -- Started harts 1, 2 and 3 are selected, and only hart 2 has 64 commands
 unfoldable pub p9 : Log
 p9 =
     log (setup_of 4 1 0 0 0 0 0)
-    (entry (send 0 (command_of ipi 14 0 0 0 0)) (Refused ReachedMaxNumberOfRemoteCommands)
-    ∷ (fences_for_hart2 64 ++ (entry (start 3 0 0) Done ∷ entry (start 2 0 0) Done ∷ entry (start 1 0 0) Done ∷ [])))
+    (entry (send 0 (command_of ipi 14 0 0 0 0)) (Err ReachedMaxNumberOfRemoteCommands)
+    ∷ (fences_for_hart2 64 ++ (entry (start 3 0 0) (Ok Done) ∷ entry (start 2 0 0) (Ok Done) ∷ entry (start 1 0 0) (Ok Done) ∷ [])))
 
 -- how many commands wait for each hart, by a log
 abbrev pub waiting : Log → List ℕ

@@ -11,8 +11,7 @@ use Rattle.confidential_hart.specs.HartStart.{start_registers, wake_registers}
 use Rattle.confidential_vm_mmio_region.specs.Region.{region_from}
 use Rattle.monitor_requests.specs.declared.Setup.{Setup}
 use Rattle.monitor_requests.specs.declared.Request.TheVariants.{Steal, Return, Start, Suspend, Stop, Wake, Off, Await, Status, Home, Send, Allow, Add, Remove, Defined, Broadcast, Process, Resume}
-use Rattle.monitor_requests.specs.declared.Answer.{Answer}
-use Rattle.monitor_requests.specs.Answers.{given, is_op}
+use Rattle.monitor_requests.specs.Answers.{Answered, given, is_op}
 use Rattle.monitor_requests.specs.declared.Request.{Request}
 
 -- ---- the log
@@ -20,10 +19,10 @@ use Rattle.monitor_requests.specs.declared.Request.{Request}
 -- a request with its answer
 pub record Entry : Type 0 where
   pub request : Request
-  pub answer : Answer
+  pub answer : Answered
 
 -- the two together
-abbrev pub entry : Request → Answer → Entry
+abbrev pub entry : Request → Answered → Entry
 entry request answer = record { request = request; answer = answer }
 
 -- the accepted setup, and what was asked and answered since, the newest first
@@ -36,11 +35,11 @@ abbrev pub log : Setup → List Entry → Log
 log setup entries = record { setup = setup; entries = entries }
 
 -- an answer that is no refusal
-abbrev pub accepted : Answer → Bool
+abbrev pub accepted : Answered → Bool
 accepted answer = eqb (given answer).number done
 
 -- an answer that refuses because a receiver has 64 commands already
-abbrev pub refused_with8 : Answer → Bool
+abbrev pub refused_with8 : Answered → Bool
 refused_with8 answer = eqb (given answer).number reached_max_number_of_remote_commands
 
 -- ---- what there is to say
@@ -158,11 +157,11 @@ sending who does c = of_hart who none unchanged none false does (some c)
 -- ---- what each request says
 
 -- a resume that answers an operation took it
-abbrev pub taken : Answer → Option Wait
+abbrev pub taken : Answered → Option Wait
 taken answer = pick (is_op (given answer).word) (some no_wait) none
 
 -- what each request says, once it is accepted with its answer
-unfoldable pub says : Request → Answer → Says
+unfoldable pub says : Request → Answered → Says
 says (Steal h k) a = moving (steals h.0 k.0)
 says (Return k) a = moving (returns k.0)
 says (Start h address opaque) a = changing (hart_numbered h.0) started (start_registers h.0 address opaque)
@@ -201,5 +200,5 @@ heard e = pick (is_heard e) (says e.request e.answer) nothing
 -- ---- one entry more
 
 -- the log with a request and its answer
-abbrev pub noted : Request → Answer → Log → Log
+abbrev pub noted : Request → Answered → Log → Log
 noted request answer l = log l.setup (entry request answer ∷ l.entries)

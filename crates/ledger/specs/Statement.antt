@@ -1,5 +1,5 @@
 -- What is stated: from an accepted setup, after any requests, every row in the lent words is the row worked out from the log.
-use Rattle.std.specs.Prelude.{ℕ, ◌-◌, ◌*◌, ◌≤◌, ◌<◌, ◌≡◌, ◌≢◌, Bool, true, false, ◌&&◌, List, [], ◌∷◌, ◌++◌, length, replicate, drop, eqb}
+use Rattle.std.specs.Prelude.{Ok, Err, ℕ, ◌-◌, ◌*◌, ◌≤◌, ◌<◌, ◌≡◌, ◌≢◌, Bool, true, false, ◌&&◌, List, [], ◌∷◌, ◌++◌, length, replicate, drop, eqb}
 use Rattle.error.specs.declared.Error.{Error}
 use Rattle.error.specs.declared.Error.TheVariants.{ReachedMaxNumberOfRemoteCommands, TablesNotSound}
 use Rattle.bits.specs.Bit.{bit}
@@ -20,8 +20,8 @@ use Rattle.hart_rows.specs.HartRows.{to_words}
 use Rattle.monitor_requests.specs.declared.Setup.{Setup}
 use Rattle.monitor_requests.specs.declared.Request.{Request}
 use Rattle.monitor_requests.specs.declared.Request.TheVariants.{Send, Broadcast, Process, Resume}
-use Rattle.monitor_requests.specs.declared.Answer.{Answer}
-use Rattle.monitor_requests.specs.declared.Answer.TheVariants.{Refused, Done, Mask, Count, Run, PoweredOff, Operation}
+use Rattle.monitor_requests.specs.Answers.{Answered}
+use Rattle.monitor_requests.specs.declared.Answer.TheVariants.{Done, Mask, Count, Run, PoweredOff, Operation}
 use Rattle.monitor_requests.specs.Tables.{Tables, harts, hardware_harts, home_hart, hardware_hart}
 use Rattle.monitor_requests.specs.Requests.{Outcome, answering, fresh, set_up, refused_on, performed}
 use Rattle.monitor_requests.specs.Writes.{Place, words_at, within, past, home_row, hardware_row, queue_row, region_table, allowed_mask, counts, writes}
@@ -35,7 +35,7 @@ use Rattle.ledger.specs.WorkedOut.{is_who, place, about, done_by}
 -- log l and tables t are left by a run: an accepted setup on any lent tables, and then any requests, each on the tables that the one before left
 -- and with any effects room. What a step leaves is what its entry promises, word for word: `set_up` of the setup, `performed` of a request
 pub data Left : Log → Tables → Type 0 where
-  begins : (s : Setup) (lent : Tables) (o : Outcome) → o ≡ set_up s lent → o.answer ≡ Done → Left (log s []) o.after
+  begins : (s : Setup) (lent : Tables) (o : Outcome) → o ≡ set_up s lent → o.answer ≡ Ok Done → Left (log s []) o.after
   asked : (l : Log) (t : Tables) → Left l t → (request : Request) (effects : List ℕ) (o : Outcome) → o ≡ performed request t effects
       → Left (noted request o.answer l) o.after
 
@@ -152,12 +152,12 @@ pub record CountOf (k : ℕ) (l : Log) (count : ℕ) : Type 0 where
   pub count_is : count ≡ length (rows.queue l.setup l.entries hart)
 
 -- what a hart with that lifecycle that waits for that goes on with: off if PoweredOff; else its operation; else it runs
-abbrev pub going_on : ℕ → Wait → Answer
+abbrev pub going_on : ℕ → Wait → Answered
 going_on lifecycle wait =
-    pick (eqb lifecycle powered_off) PoweredOff (pick (eqb wait.kind no_operation) Run (Operation wait.kind wait.x wait.y))
+    pick (eqb lifecycle powered_off) (Ok PoweredOff) (pick (eqb wait.kind no_operation) (Ok Run) (Ok (Operation wait.kind wait.x wait.y)))
 
 -- what a resume answers: what the hart on hardware hart k goes on with, once it did its queue
-pub record ResumeOf (k : ℕ) (l : Log) (answer : Answer) : Type 0 where
+pub record ResumeOf (k : ℕ) (l : Log) (answer : Answered) : Type 0 where
   pub hart : ℕ
   pub stands : On k l hart
   pub answer_is : answer
@@ -194,11 +194,11 @@ pub record Next (l : Log) (t : Tables) (request : Request) (effects : List ℕ) 
   -- equal inputs allow one outcome
   pub one_outcome : (other : Outcome) → other ≡ performed request t effects → other ≡ o
   -- 12 never occurs
-  pub never_12 : o.answer ≢ Refused TablesNotSound
+  pub never_12 : o.answer ≢ Err TablesNotSound
   -- a refusal changes nothing, unless the log hears it: 8 of a Send or a Broadcast
-  pub refusal_alone : (e : Error) → o.answer ≡ Refused e → is_heard (entry request (Refused e)) ≡ false → o ≡ refused_on t effects e
+  pub refusal_alone : (e : Error) → o.answer ≡ Err e → is_heard (entry request (Err e)) ≡ false → o ≡ refused_on t effects e
   -- 8 is given to these two alone: the request sends a command
-  pub only_broadcasts_8 : o.answer ≡ Refused ReachedMaxNumberOfRemoteCommands → is_some (says request o.answer).sends ≡ true
+  pub only_broadcasts_8 : o.answer ≡ Err ReachedMaxNumberOfRemoteCommands → is_some (says request o.answer).sends ≡ true
   -- the request writes only the places that are named for it
   pub writes_only : (p : Place) → within p t ≡ true → writes request t p ≡ false → words_at p o.after ≡ words_at p t
   -- no word past the tables, and each table is as long as it was
@@ -211,17 +211,17 @@ pub record Next (l : Log) (t : Tables) (request : Request) (effects : List ℕ) 
   pub effects_fit : o.did * effect_words ≤ length effects
   pub effects_as_long : length o.effects ≡ length effects
   -- the count that a process gives is the queue's length before
-  pub counted : (k : HardwareHartId) (count : ℕ) → request ≡ Process k → o.answer ≡ Count count → CountOf k.0 l count
+  pub counted : (k : HardwareHartId) (count : ℕ) → request ≡ Process k → o.answer ≡ Ok (Count count) → CountOf k.0 l count
   -- the mask that a broadcast gives has the bits of the stolen receivers, and 8 is given where one is full
-  pub broadcast_masked : (k : HardwareHartId) (c : ConfidentialHartRemoteCommand) (mask : ℕ) → request ≡ Broadcast k c → o.answer ≡ Mask mask
+  pub broadcast_masked : (k : HardwareHartId) (c : ConfidentialHartRemoteCommand) (mask : ℕ) → request ≡ Broadcast k c → o.answer ≡ Ok (Mask mask)
       → MaskOf c (held_by k.0) l mask
   pub broadcast_8 : (k : HardwareHartId) (c : ConfidentialHartRemoteCommand) → request ≡ Broadcast k c
-      → o.answer ≡ Refused ReachedMaxNumberOfRemoteCommands
+      → o.answer ≡ Err ReachedMaxNumberOfRemoteCommands
       → some_full c (held_by k.0) l ≡ true
-  pub send_masked : (sender : ℕ) (c : ConfidentialHartRemoteCommand) (mask : ℕ) → request ≡ Send sender c → o.answer ≡ Mask mask
+  pub send_masked : (sender : ℕ) (c : ConfidentialHartRemoteCommand) (mask : ℕ) → request ≡ Send sender c → o.answer ≡ Ok (Mask mask)
       → MaskOf c (hart_numbered sender) l mask
   pub send_8 : (sender : ℕ) (c : ConfidentialHartRemoteCommand) → request ≡ Send sender c
-      → o.answer ≡ Refused ReachedMaxNumberOfRemoteCommands
+      → o.answer ≡ Err ReachedMaxNumberOfRemoteCommands
       → some_full c (hart_numbered sender) l ≡ true
   -- a resume that is accepted answers what its hart goes on with
   pub resumed : (k : HardwareHartId) → request ≡ Resume k → accepted o.answer ≡ true → ResumeOf k.0 l o.answer
@@ -229,11 +229,11 @@ pub record Next (l : Log) (t : Tables) (request : Request) (effects : List ℕ) 
 -- an outcome o of a later setup on tables t: one that is refused is no entry of the log, and one that is done starts the log anew, by `begins`
 pub record NextSetup (t : Tables) (s : Setup) (o : Outcome) : Type 0 where
   pub one_outcome : (other : Outcome) → other ≡ set_up s t → other ≡ o
-  pub never_12 : o.answer ≢ Refused TablesNotSound
+  pub never_12 : o.answer ≢ Err TablesNotSound
   -- a refusal changes nothing
-  pub refusal_alone : (e : Error) → o.answer ≡ Refused e → o ≡ refused_on t [] e
+  pub refusal_alone : (e : Error) → o.answer ≡ Err e → o ≡ refused_on t [] e
   -- one that is done leaves the fresh tables of that setup
-  pub done_fresh : o.answer ≡ Done → o ≡ answering Done (fresh s t) []
+  pub done_fresh : o.answer ≡ Ok Done → o ≡ answering (Ok Done) (fresh s t) []
   pub past_kept : past_end o.after o.after ≡ past_end o.after t
   pub as_long : lengths o.after ≡ lengths t
 

@@ -15,7 +15,7 @@ use Rattle.hart_lifecycle_state.specs.Lifecycle.{started, suspended, powered_off
 use Rattle.confidential_hart.specs.declared.ConfidentialHart.{ConfidentialHart}
 use Rattle.confidential_hart.specs.Hart.{the_vm, hart_of, dummy}
 use Rattle.monitor_requests.specs.declared.Setup.{Setup}
-use Rattle.monitor_requests.specs.declared.Answer.{Answer}
+use Rattle.monitor_requests.specs.Answers.{Answered}
 use Rattle.monitor_requests.specs.Requests.{setup_hart}
 use Rattle.hart_standing.specs.Standing.{Standing, at_home, on_hardware, is_on}
 use Rattle.ledger.specs.Log.{Entry, Log, accepted, Move, stays, steals, returns, Who, nobody, hart_numbered, held_by, Wait, no_wait, Says, is_some, heard}
@@ -101,7 +101,7 @@ receives c sender at lifecycle h = selects c h && not sender && reachable at lif
 
 -- an accepted broadcast delivers to each that receives; one refused with 8 only to those below the refusing one: no hart up to them receives
 -- and is full
-abbrev pub delivers : Answer → (ℕ → Bool) → (ℕ → Bool) → ℕ → Bool
+abbrev pub delivers : Answered → (ℕ → Bool) → (ℕ → Bool) → ℕ → Bool
 delivers answer receiving isFull h = receiving h && (accepted answer || every (λ g. not (receiving g && isFull g)) (h + 1))
 
 -- a command that is delivered stands before the others

@@ -3,7 +3,7 @@ use Prim.Native.Nat.{ℕ}
 use mathlib.Core.Path.{◌≡◌}
 use mathlib.Core.List.{List, []}
 use Rattle.monitor_requests.specs.declared.Setup.{Setup}
-use Rattle.monitor_requests.specs.declared.Answer.{Answer}
+use Rattle.monitor_requests.specs.Answers.{Answered}
 use Rattle.monitor_requests.specs.Tables.{Tables}
 use Rattle.monitor_requests.specs.Requests.{answering, set_up, replied, performed}
 use Rattle.monitor_requests.specs.declared.Reply.{Reply}
@@ -13,7 +13,7 @@ use Rattle.ledger.proofs.Theorem.{kept}
 use Rattle.ledger_entries.specs.Steps.{Begun, Asked}
 
 -- the first step
-pub begun : (s : Setup) (lent : Tables) (answer : Answer) (after : Tables) → answering answer after [] ≡ set_up s lent
+pub begun : (s : Setup) (lent : Tables) (answer : Answered) (after : Tables) → answering answer after [] ≡ set_up s lent
     → Begun s lent answer after
 begun s lent answer after p =
     record {

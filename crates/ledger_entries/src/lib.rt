@@ -1,9 +1,11 @@
-// The steps of a run as code: a setup that is accepted starts one, any request goes on with it, and every row is the row worked out from the log.
+// The steps of a run as code: a setup that is accepted starts one, any request goes on with it, and every row is the row worked out from the
+// log. The five tables are lent one by one: `sound_tables` says why.
 #![tactic(auto)]
 
 ghost use Rattle.monitor_requests.specs.Tables.{tables};
 ghost use Rattle.ledger_entries.specs.Steps.{Begun, Asked};
 
+use error::Error;
 use monitor_requests::{Answer, Reply, Request, Setup};
 
 // Sets up one VM in the tables. If it is done, a run left them, with the log of that setup and nothing asked since.
@@ -14,7 +16,7 @@ pub fn new(
     hardware: &mut [u64],
     queues: &mut [u64],
     regions: &mut [u64],
-) -> Answer
+) -> Result<Answer, Error>
     ensures { Begun setup (tables head.old home.old hardware.old queues.old regions.old) result (tables head.new home.new hardware.new queues.new regions.new) }
 {
     confidential_vm_setup::new(setup, head, home, hardware, queues, regions)

@@ -6,9 +6,8 @@ use mathlib.Core.List.{List}
 use Rattle.error.specs.Error.{done, hart_already_running, hardware_hart_idle}
 use Rattle.hart_lifecycle_state.specs.Lifecycle.{Entry, start, suspend, stop, wake, off}
 use Rattle.confidential_hart.specs.declared.ConfidentialHart.{ConfidentialHart}
-use Rattle.confidential_hart.specs.declared.Transition.{Transition}
 use Rattle.confidential_hart.specs.HartStart.{start_registers, wake_registers}
-use Rattle.confidential_hart.specs.Transition.{transition, after_start, after_suspend, after_stop, after_wake, after_off}
+use Rattle.confidential_hart.specs.Transition.{Transition, transition, after_start, after_suspend, after_stop, after_wake, after_off}
 use Rattle.confidential_hart.proofs.TransitionLaws.{refusal_keeps}
 use Rattle.lent_hart.specs.Lent.{left}
 

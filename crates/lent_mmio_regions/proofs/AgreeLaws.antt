@@ -25,6 +25,7 @@ use Rattle.mmio_regions.proofs.TableLaws.{words_length, words_append, standing_o
 use Rattle.monitor_requests.specs.declared.Request.{Request}
 use Rattle.monitor_requests.specs.declared.Request.TheVariants.{Add, Remove, Defined}
 use Rattle.monitor_requests.specs.declared.Setup.{Setup}
+use Rattle.std.proofs.Common.{Ok}
 use Rattle.monitor_requests.specs.declared.Answer.TheVariants.{Done}
 use Rattle.monitor_requests.specs.Tables.{Tables, regions_word, region_count, regions_of, sound}
 use Rattle.monitor_requests.specs.Requests as entry
@@ -295,7 +296,7 @@ module _ (t : Tables) (others : OthersSound t) where
 -- ---- where it begins
 
 -- tables that an accepted setup leaves, with as many words for regions as 1,024 records have, hold the run in which none stands
-pub setup_holds : (s : Setup) (t : Tables) → (set_up s t).answer ≡ Done
+pub setup_holds : (s : Setup) (t : Tables) → (set_up s t).answer ≡ Ok Done
     → t.regions ≡ replicate (max_regions * region_words) 0
     → Holds (set_up s t).after (run 0 (replicate max_regions unused)) × OthersSound (set_up s t).after
 unfolding words_of

@@ -8,16 +8,20 @@ use lib.ListN.{length, set, take, drop, length-append, take-append-drop}
 use lib.Seq.{length-take-le, append_snoc, set_split}
 use lib.Dec.{eqb, leb, ltb}
 use borrow.Author.Tests.{eqb-true, leb-false, not-false}
-use Rattle.error.specs.Error.{done, reached_max_number_of_mmio_regions, overlapping_mmio_region, end_too_large, tables_not_sound}
+use Rattle.std.specs.Result.{result_unwrap_or}
+use Rattle.std.specs.Prelude.{Ok, Err}
+use Rattle.error.specs.declared.Error.{Error}
+use Rattle.error.proofs.NumberLaws.{number_refuses}
+use Rattle.error.specs.Error.{done, number_of, number_in, reached_max_number_of_mmio_regions, overlapping_mmio_region, end_too_large, tables_not_sound}
 use Rattle.table_rows.specs.Choice.{pick}
 use Rattle.table_rows.proofs.PickLaws.{yes, no, by_test, not_yes, not_no}
 use Rattle.confidential_vm_mmio_region.specs.declared.ConfidentialVmMmioRegion.{ConfidentialVmMmioRegion}
-use Rattle.confidential_vm_mmio_region.specs.Region.{max_end, new_region, region_from}
+use Rattle.confidential_vm_mmio_region.specs.Region.{max_end, new_region, region_of, region_from}
 use Rattle.mmio_regions.specs.Regions.{max_regions, any_overlaps, any_contains, add_number, with_added, with_removed}
 use Rattle.mmio_region_survey.specs.declared.Changed.{Changed}
 use Rattle.mmio_region_survey.specs.declared.Defined.{Defined}
 use Rattle.mmio_region_survey.specs.declared.Survey.{Survey}
-use Rattle.mmio_region_survey.specs.Survey.{surveyed, refusal, changed, add_answer, defined_answer}
+use Rattle.mmio_region_survey.specs.Survey.{surveyed, refusal, changed, changed_by, add_answer, defined_answer}
 use Rattle.lent_mmio_regions.specs.Run.{
   standing,
   run_sound,
@@ -70,13 +74,13 @@ by_number f next false true = refl
 by_number f next false false = refl
 
 -- the number of a new region
-new_number : (base size : ℕ) → (new_region base size).number ≡ pick (ltb max_end (base + size)) end_too_large done
+new_number : (base size : ℕ) → number_in (new_region base size) ≡ pick (ltb max_end (base + size)) end_too_large done
 unfolding new_region pick
 new_number base size =
     by_test (ltb max_end (base + size)) (λ e. rw e) (λ e. rw e)
 
 -- where the number is 0 the region is that of the base and the size
-new_region_lem : (base size : ℕ) → eqb (new_region base size).number done ≡ true → (new_region base size).region ≡ region_from base size
+new_region_lem : (base size : ℕ) → eqb (number_in (new_region base size)) done ≡ true → result_unwrap_or (new_region base size) (region_of 0 0) ≡ region_from base size
 unfolding new_region pick
 new_region_lem base size d =
     by_test (ltb max_end (base + size)) (λ e. absurd (false≢true (rw e at d))) (λ e. rw e)
@@ -90,7 +94,7 @@ not_twelve false n e = refl
 module _ (rs : List ConfidentialVmMmioRegion) (count base size : ℕ) where
   -- what is looked for
   abbrev q : ConfidentialVmMmioRegion
-  q = (new_region base size).region
+  q = result_unwrap_or (new_region base size) (region_of 0 0)
 
   -- what the look shows
   abbrev s : Survey
@@ -118,7 +122,7 @@ module _ (rs : List ConfidentialVmMmioRegion) (count base size : ℕ) where
   module _ (e : eqb (refusal s base size) done ≡ true) where
     passed_sound : run_sound rs count ≡ true
     unfolding refusal
-    passed_sound = sym (survey_sound rs count q) ∙ not-false s.sound (not_twelve (not s.sound) (new_region base size).number e)
+    passed_sound = sym (survey_sound rs count q) ∙ not-false s.sound (not_twelve (not s.sound) (number_in (new_region base size)) e)
 
     passed_region : q ≡ region_from base size
     unfolding refusal pick
@@ -167,24 +171,32 @@ module _ (rs : List ConfidentialVmMmioRegion) (count base size : ℕ) where
 
   -- ---- remove
 
-  pub remove_room : eqb (refusal s base size) done ≡ true → count ≤ length rs
-  remove_room e = omega (arith, passed_room e, passed_few e)
+  room : eqb (refusal s base size) done ≡ true → count ≤ length rs
+  room e = omega (arith, passed_room e, passed_few e)
+
+  -- a number that is 0
+  zero_passes : done ≡ refusal s base size → eqb (refusal s base size) done ≡ true
+  zero_passes n = ap (λ (k : ℕ). eqb k done) (sym n)
+
+  pub remove_room : done ≡ refusal s base size → count ≤ length rs
+  remove_room n = room (zero_passes n)
 
   abbrev fewer : RunChange
   fewer = record { number = done; after = relaid rs count (with_removed (region_from base size) here) }
 
-  pub remove_done : eqb (refusal s base size) done ≡ true → (left : ℕ) (zs : List ConfidentialVmMmioRegion)
+  pub remove_done : done ≡ refusal s base size → (left : ℕ) (zs : List ConfidentialVmMmioRegion)
       → run left zs ≡ relaid rs count (with_removed q here) → run_change (changed done left) zs ≡ removed rs count base size
   unfolding removed
-  remove_done e left zs p =
+  remove_done n left zs p =
       ap (λ (r : Run). record { number = done; after = r })
-      (p ∙ ap (λ (r : ConfidentialVmMmioRegion). relaid rs count (with_removed r here)) (passed_region e))
-      ∙ follows e (refused rs count) fewer
+      (p ∙ ap (λ (r : ConfidentialVmMmioRegion). relaid rs count (with_removed r here)) (passed_region (zero_passes n)))
+      ∙ follows (zero_passes n) (refused rs count) fewer
 
-  pub remove_refused : eqb (refusal s base size) done ≡ false
-      → run_change (changed (refusal s base size) count) rs ≡ removed rs count base size
+  pub remove_refused : (e : Error) → number_of e ≡ refusal s base size → run_change (changed (number_of e) count) rs ≡ removed rs count base size
   unfolding removed
-  remove_refused e = refuses e (refused rs count) fewer
+  remove_refused e n =
+      ap (refused rs count) n
+      ∙ refuses (ap (λ (k : ℕ). eqb k done) (sym n) ∙ number_refuses e) (refused rs count) fewer
 
   -- ---- add
 
@@ -228,7 +240,7 @@ module _ (rs : List ConfidentialVmMmioRegion) (count base size : ℕ) where
     by_answer kept stored =
         by_test (eqb (refusal s base size) done)
         (λ e.
-        let l : count ≤ length rs = remove_room e in
+        let l : count ≤ length rs = room e in
         let over : s.overlapping ≡ any_overlaps (region_from base size) here =
         survey_overlapping rs count q (passed_sound e) ∙ ap (λ (r : ConfidentialVmMmioRegion). any_overlaps r here) (passed_region e) in
         let size_same : leb max_regions (length here) ≡ leb max_regions count = ap (leb max_regions) (passed_length e) in
@@ -250,22 +262,28 @@ module _ (rs : List ConfidentialVmMmioRegion) (count base size : ℕ) where
         (stored free))))
         (λ e. both (yes _ (not_yes _ e) refl) (refuses e (refused rs count) new) (kept (refusal s base size) e))
 
-  pub add_room : eqb (add_answer s count base size).number done ≡ true → count < length rs
-  add_room =
+  -- an answer that is done, and one that refuses, by their numbers
+  pub add_room : {more : ℕ} → changed_by count (Ok more) ≡ add_answer s count base size → count < length rs
+  add_room a =
       by_answer (λ (c : Changed) (o : RunChange). eqb c.number done ≡ true → count < length rs)
       (λ n other d. absurd (false≢true (sym other ∙ d)))
       (λ l _. l)
+      (ap (λ (c : Changed). eqb c.number done) (sym a))
 
-  pub add_stored : eqb (add_answer s count base size).number done ≡ true
-      → run_change (add_answer s count base size) (set rs count q) ≡ added rs count base size
-  add_stored =
-      by_answer (λ (c : Changed) (o : RunChange). eqb c.number done ≡ true → run_change c (set rs count q) ≡ o)
+  pub add_stored : {more : ℕ} → changed_by count (Ok more) ≡ add_answer s count base size
+      → run_change (changed_by count (Ok more)) (set rs count q) ≡ added rs count base size
+  add_stored a =
+      ap (λ (c : Changed). run_change c (set rs count q)) a
+      ∙ by_answer (λ (c : Changed) (o : RunChange). eqb c.number done ≡ true → run_change c (set rs count q) ≡ o)
       (λ n other d. absurd (false≢true (sym other ∙ d)))
       (λ _ _. refl)
+      (ap (λ (c : Changed). eqb c.number done) (sym a))
 
-  pub add_kept : eqb (add_answer s count base size).number done ≡ false
-      → run_change (add_answer s count base size) rs ≡ added rs count base size
-  add_kept =
-      by_answer (λ (c : Changed) (o : RunChange). eqb c.number done ≡ false → run_change c rs ≡ o)
+  pub add_kept : (e : Error) → changed_by count (Err e) ≡ add_answer s count base size
+      → run_change (changed_by count (Err e)) rs ≡ added rs count base size
+  add_kept e a =
+      ap (λ (c : Changed). run_change c rs) a
+      ∙ by_answer (λ (c : Changed) (o : RunChange). eqb c.number done ≡ false → run_change c rs ≡ o)
       (λ n _ _. refl)
       (λ _ d. absurd (false≢true (sym d)))
+      (ap (λ (c : Changed). eqb c.number done) (sym a) ∙ number_refuses e)

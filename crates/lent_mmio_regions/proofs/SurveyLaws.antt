@@ -2,12 +2,11 @@
 use mathlib.Core.Path.{◌≡◌, refl, sym, ap, ◌∙◌}
 use mathlib.Core.Bool.{Bool, true, false, ◌&&◌, ◌||◌, or-false, or_assoc, and-true, and-false, and_assoc}
 use mathlib.Core.List.{List, [], ◌∷◌}
-use Prim.Native.Nat.{ℕ, ◌+◌, ◌-◌, ◌≤◌, ◌<◌}
+use Prim.Native.Nat.{ℕ, ◌+◌, ◌-◌, ◌≤◌}
 use native.Mathlib.Nat.{le_refl, le_antisymm, le_of_lt}
-use native.Mathlib.Numerals.{add-one}
 use native.Mathlib.Omega.{arith}
-use lib.ListN.{length, get_or, take, drop, length-take, drop_of_length-le}
-use lib.Seq.{length-take-le, take-add, drop_at, slice-cons}
+use lib.ListN.{length, take, drop}
+use lib.Seq.{length-take-le, take-add, drop_at}
 use lib.Dec.{eqb, leb, ltb}
 use lib.Bits.{bit_or}
 use borrow.Author.Tests.{leb-true, leb-false, lt-ltb, le-ltb, ltb-true, ltb-false}
@@ -31,7 +30,7 @@ use Rattle.mmio_region_survey.specs.Survey.{
   surveyed_to,
   surveyed,
 }
-use Rattle.lent_mmio_regions.specs.Run.{standing, unused, is_unused, run_sound}
+use Rattle.lent_mmio_regions.specs.Run.{standing, is_unused, run_sound}
 
 -- ---- how many records are judged, and how many of them stand
 
@@ -58,41 +57,7 @@ standing_count places count few =
     by_pick (λ (n : ℕ). n ≡ count) (ltb count places) count places (λ _. refl)
     (λ e. le_antisymm (ltb-false count places e) few)
 
--- ---- the two loops
-
--- what is left of a part: one more record and the rest
-left_next : (ys : List ConfidentialVmMmioRegion) (n i : ℕ) → i < n → n ≤ length ys
-    → drop i (take n ys) ≡ get_or ys i unused ∷ drop (i + 1) (take n ys)
-left_next ys n i l long = slice-cons i n ys unused l long ∙ ap (λ (j : ℕ). get_or ys i unused ∷ drop j (take n ys)) (sym (add-one i))
-
--- or nothing
-left_none : (ys : List ConfidentialVmMmioRegion) (n i : ℕ) → n ≤ i → drop i (take n ys) ≡ []
-left_none ys n i l = drop_of_length-le (take n ys) {i = i} (omega (arith, length-take n ys))
-
--- one more region that stands
-pub seen_next : (s : Survey) (ys : List ConfidentialVmMmioRegion) (n i : ℕ) (q : ConfidentialVmMmioRegion) → i < n → n ≤ length ys
-    → seen_through s q (drop i (take n ys)) ≡ seen_through (seen_with s (get_or ys i unused) q) q (drop (i + 1) (take n ys))
-unfolding seen_through
-seen_next s ys n i q l long = ap (seen_through s q) (left_next ys n i l long)
-
--- none is left
-pub seen_all : (s : Survey) (ys : List ConfidentialVmMmioRegion) (n i : ℕ) (q : ConfidentialVmMmioRegion) → n ≤ i
-    → seen_through s q (drop i (take n ys)) ≡ s
-unfolding seen_through
-seen_all s ys n i q l = ap (seen_through s q) (left_none ys n i l)
-
--- one more unused record
-pub joined_next : (j : ℕ) (ys : List ConfidentialVmMmioRegion) (n i : ℕ) → i < n → n ≤ length ys
-    → joined_through j (drop i (take n ys)) ≡ joined_through (joined_with j (get_or ys i unused)) (drop (i + 1) (take n ys))
-unfolding joined_through
-joined_next j ys n i l long = ap (joined_through j) (left_next ys n i l long)
-
--- none is left
-pub joined_all : (j : ℕ) (ys : List ConfidentialVmMmioRegion) (n i : ℕ) → n ≤ i → joined_through j (drop i (take n ys)) ≡ j
-unfolding joined_through
-joined_all j ys n i l = ap (joined_through j) (left_none ys n i l)
-
--- ---- what the two loops give
+-- ---- what the two looks give
 
 -- the three together
 abbrev seen : Bool → Bool → Bool → Survey
@@ -104,7 +69,7 @@ seen_same p q r = λ i. seen (p i) (q i) (r i)
 -- regions that stand
 seen_standing : (s : Survey) (q : ConfidentialVmMmioRegion) (xs : List ConfidentialVmMmioRegion)
     → seen_through s q xs ≡ seen (s.sound && all_of ordered xs) (s.overlapping || any_overlaps q xs) (s.containing || any_contains q xs)
-unfolding seen_through all_of any_of
+unfolding all_of any_of
 seen_standing s q [] = seen_same (sym (and-true s.sound)) (sym (or-false s.overlapping)) (sym (or-false s.containing))
 seen_standing s q (x ∷ xs) =
     seen_standing (seen_with s x q) q xs
@@ -122,7 +87,7 @@ joined_unused j x =
 
 -- joined numbers are 0 exactly when each record is unused
 joined_none : (j : ℕ) (xs : List ConfidentialVmMmioRegion) → eqb (joined_through j xs) 0 ≡ eqb j 0 && all_of is_unused xs
-unfolding joined_through all_of
+unfolding all_of
 joined_none j [] = sym (and-true (eqb j 0))
 joined_none j (x ∷ xs) =
     joined_none (joined_with j x) xs

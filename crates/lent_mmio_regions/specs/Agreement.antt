@@ -1,11 +1,10 @@
 -- A lent run and tables over plain numbers: when tables hold a run, and when an entry on them gives what the function on the run gives.
-use Rattle.std.specs.Prelude.{◌≡◌, [], ◌∷◌, eqb}
+use Rattle.std.specs.Prelude.{◌≡◌, [], ◌∷◌, eqb, None}
 use Rattle.error.specs.Error.{done}
 use Rattle.table_rows.specs.Choice.{pick}
 use Rattle.mmio_regions.specs.Table.{words_of, regions_sound}
 use Rattle.mmio_region_survey.specs.declared.Defined.{Defined}
 use Rattle.monitor_requests.specs.Tables.{Tables, region_count, sound}
-use Rattle.monitor_requests.specs.declared.Word.TheVariants.{NoWord}
 use Rattle.monitor_requests.specs.Answers.{Given, gives, given}
 use Rattle.monitor_requests.specs.Requests as entry
 use Rattle.lent_mmio_regions.specs.Run.{Run, RunChange}
@@ -24,13 +23,13 @@ OthersSound t = sound t ≡ regions_sound t.regions (region_count t)
 -- what an entry gives is what add or remove gives on the run
 pub record Agrees (o : entry.Outcome) (r : RunChange) : Type 0 where
   -- the same number, and nothing follows it
-  pub same : given o.answer ≡ gives r.number NoWord []
+  pub same : given o.answer ≡ gives r.number None []
   -- the tables afterwards hold the run afterwards
   pub after : Holds o.after r.after
 
 -- the number and the flag of an answer as an entry gives them: a refusal gives its number alone
 abbrev pub flag_given : Defined → Given
-flag_given d = gives d.number NoWord (pick (eqb d.number done) (pick d.defined 1 0 ∷ []) [])
+flag_given d = gives d.number None (pick (eqb d.number done) (pick d.defined 1 0 ∷ []) [])
 
 -- what an entry gives on tables is what asking for a region gives on the run
 pub record AgreesOnFlag (t : Tables) (o : entry.Outcome) (d : Defined) : Type 0 where

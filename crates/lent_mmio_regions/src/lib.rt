@@ -2,46 +2,35 @@
 // SPDX-FileContributor: Wojciech Ozga <woz@zurich.ibm.com>, IBM Research - Zurich
 // SPDX-License-Identifier: Apache-2.0
 // Changed: ported to Rattle from the MMIO regions of core/control_data/confidential_vm.rs. They are a lent run of
-// region records with a count.
+// region records with a count, as C lends them. C may also lend regions as words (`mmio_regions`), so adding, removing and asking stand there
+// once more.
 #![tactic(auto)]
 
-ghost use Rattle.std.specs.Prelude.{◌≡◌, ◌≤◌, length, take, drop};
-ghost use Rattle.mmio_region_survey.specs.Survey.{unseen, seen_through, joined_through, surveyed};
+ghost use Rattle.std.specs.Prelude.{◌≡◌, ◌≤◌, length};
+ghost use Rattle.mmio_region_survey.specs.Survey.{unseen, seen_through, joined_through, surveyed, changed_by};
 ghost use Rattle.lent_mmio_regions.specs.Run.{run, without, run_change, added, removed, defined};
 
 use confidential_vm_mmio_region::ConfidentialVmMmioRegion;
+use error::Error;
 use mmio_region_survey::{Changed, Defined, Survey};
 
 // Looks at each region that stands.
-fn survey_standing(
-    regions: &[ConfidentialVmMmioRegion],
-    standing: u64,
-    query: ConfidentialVmMmioRegion,
-) -> Survey
-    requires { standing ≤ length regions.now }
-    ensures { result ≡ seen_through unseen query (take standing regions.now) }
+fn survey_standing(standing: &[ConfidentialVmMmioRegion], query: ConfidentialVmMmioRegion) -> Survey
+    ensures { result ≡ seen_through unseen query standing.now }
 {
-    let mut seen = Survey::new();
-    let mut i: u64 = 0;
-    while i < standing {
-        seen = seen.with(regions[i as usize], query);
-        i += 1;
-    }
-    seen
+    standing
+        .iter()
+        .fold(Survey::new(), |seen, region| seen.with(*region, query))
 }
 
-// Joins the numbers of the records from `standing` up to `places`.
-fn join_unused(regions: &[ConfidentialVmMmioRegion], standing: u64, places: u64) -> u64
-    requires { places ≤ length regions.now }
-    ensures { result ≡ joined_through 0 (drop standing (take places regions.now)) }
+// Joins the numbers of the unused records.
+fn join_unused(unused: &[ConfidentialVmMmioRegion]) -> u64
+    ensures { result ≡ joined_through 0 unused.now }
 {
-    let mut joined: u64 = 0;
-    let mut i: u64 = standing;
-    while i < places {
-        joined = mmio_region_survey::join(joined, regions[i as usize]);
-        i += 1;
-    }
-    joined
+    unused.iter().fold(
+        0,
+        |joined, region| mmio_region_survey::join(joined, *region),
+    )
 }
 
 // Looks once at each of the first 1,024 records; at none where the run is too short or the count too large.
@@ -54,9 +43,9 @@ fn survey_run(
 {
     let places = mmio_region_survey::places(regions.len(), count);
     let standing = mmio_region_survey::standing(places, count);
-    let seen = survey_standing(regions, standing, query);
-    let joined = join_unused(regions, standing, places);
-    seen.judged(places, joined)
+    let (standing, unused) = regions[..places as usize].split_at(standing as usize);
+    let seen = survey_standing(standing, query);
+    seen.judged(places, join_unused(unused))
 }
 
 // Whether a region contains `size` addresses from `base` on.
@@ -70,8 +59,22 @@ pub extern "C" fn lent_is_mmio_region_defined(
     ensures { result ≡ defined regions.now count base size }
 {
     let query = mmio_region_survey::requested(base, size);
-    let seen = survey_run(regions, count, query);
-    seen.is_defined(base, size)
+    Defined::from(survey_run(regions, count, query).is_defined(base, size))
+}
+
+// Adds the region of `size` addresses from `base` on after the first `count`: how many stand then.
+fn add(
+    regions: &mut [ConfidentialVmMmioRegion],
+    count: u64,
+    base: u64,
+    size: u64,
+) -> Result<u64, Error>
+    ensures { run_change (changed_by count result) regions.new ≡ added regions.old count base size }
+{
+    let query = mmio_region_survey::requested(base, size);
+    let more = survey_run(&*regions, count, query).add(count, base, size)?;
+    regions[count as usize] = query;
+    Ok(more)
 }
 
 // Adds the region of `size` addresses from `base` on after the first `count`.
@@ -84,17 +87,11 @@ pub extern "C" fn lent_add_mmio_region(
 ) -> Changed
     ensures { run_change result regions.new ≡ added regions.old count base size }
 {
-    let query = mmio_region_survey::requested(base, size);
-    let seen = survey_run(&*regions, count, query);
-    let answer = seen.add(count, base, size);
-    if answer.number == error::DONE {
-        regions[count as usize] = query;
-    }
-    answer
+    Changed::new(count, add(regions, count, base, size))
 }
 
-// Removes each of the first `count` regions that overlaps the query, and keeps the order of the others. Each record is taken out of its
-// place and written to the next that is kept, so that the freed records are 0. The answer is how many stand then.
+// Removes each of the first `count` regions that overlaps the query, and keeps the order of the others. Each record is taken out of its place
+// and written to the next that is kept, `next`, so that the freed records are 0: a slice has no `retain`. The answer is how many stand then.
 fn remove_overlapping(
     regions: &mut [ConfidentialVmMmioRegion],
     count: u64,
@@ -103,18 +100,28 @@ fn remove_overlapping(
     requires { count ≤ length regions.old }
     ensures { run result regions.new ≡ without query regions.old count }
 {
-    let unused = ConfidentialVmMmioRegion { base: 0, end: 0 };
     let mut next: u64 = 0;
-    let mut i: u64 = 0;
-    while i < count {
-        let region = regions[i as usize];
-        regions[i as usize] = unused;
+    for i in 0..count as usize {
+        let region = std::mem::take(&mut regions[i]);
         let kept = mmio_region_survey::keep(next, region, query);
         regions[next as usize] = kept.region;
         next = kept.next;
-        i += 1;
     }
     next
+}
+
+// Removes every region that overlaps the one of `size` addresses from `base` on: how many stand then.
+fn remove(
+    regions: &mut [ConfidentialVmMmioRegion],
+    count: u64,
+    base: u64,
+    size: u64,
+) -> Result<u64, Error>
+    ensures { run_change (changed_by count result) regions.new ≡ removed regions.old count base size }
+{
+    let query = mmio_region_survey::requested(base, size);
+    survey_run(&*regions, count, query).check(base, size)?;
+    Ok(remove_overlapping(regions, count, query))
 }
 
 // Removes every region that overlaps the one of `size` addresses from `base` on.
@@ -127,14 +134,5 @@ pub extern "C" fn lent_remove_mmio_region(
 ) -> Changed
     ensures { run_change result regions.new ≡ removed regions.old count base size }
 {
-    let query = mmio_region_survey::requested(base, size);
-    let seen = survey_run(&*regions, count, query);
-    let number = seen.refusal(base, size);
-    if number != error::DONE {
-        return Changed { number, count };
-    }
-    Changed {
-        number: error::DONE,
-        count: remove_overlapping(regions, count, query),
-    }
+    Changed::new(count, remove(regions, count, base, size))
 }

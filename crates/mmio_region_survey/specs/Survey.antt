@@ -1,8 +1,10 @@
 -- What the steps of the three requests give: one look at each record of a run, and the answers made of it. `lent_mmio_regions` says what
 -- the requests promise.
-use Rattle.std.specs.Prelude.{ℕ, ◌+◌, true, false, ◌&&◌, ◌||◌, not, List, [], ◌∷◌, length, take, drop, eqb, leb, ltb}
+use Rattle.std.specs.Prelude.{ℕ, ◌+◌, Bool, true, false, ◌&&◌, ◌||◌, not, List, length, take, drop, fold, Result, eqb, leb, ltb}
+use Rattle.std.specs.Result.{result_unwrap_or}
 use Rattle.std.specs.Int.Bits.{bit_or}
-use Rattle.error.specs.Error.{done, reached_max_number_of_mmio_regions, overlapping_mmio_region, tables_not_sound}
+use Rattle.error.specs.declared.Error.{Error}
+use Rattle.error.specs.Error.{done, number_in, reached_max_number_of_mmio_regions, overlapping_mmio_region, tables_not_sound}
 use Rattle.table_rows.specs.Choice.{pick}
 use Rattle.confidential_vm_mmio_region.specs.declared.ConfidentialVmMmioRegion.{ConfidentialVmMmioRegion}
 use Rattle.confidential_vm_mmio_region.specs.Region.{region_of, new_region, overlaps, contains, ordered}
@@ -33,17 +35,15 @@ seen_with s r q = record {
 }
 
 -- with each of rs
-unfoldable pub seen_through : Survey → ConfidentialVmMmioRegion → List ConfidentialVmMmioRegion → Survey
-seen_through s q [] = s
-seen_through s q (r ∷ rs) = seen_through (seen_with s r q) q rs
+abbrev pub seen_through : Survey → ConfidentialVmMmioRegion → List ConfidentialVmMmioRegion → Survey
+seen_through s q rs = fold (λ t r. seen_with t r q) s rs
 
 -- the numbers of unused records joined, with one more and with each of rs
 abbrev pub joined_with : ℕ → ConfidentialVmMmioRegion → ℕ
 joined_with joined r = bit_or (bit_or joined r.base) r.end
 
-unfoldable pub joined_through : ℕ → List ConfidentialVmMmioRegion → ℕ
-joined_through joined [] = joined
-joined_through joined (r ∷ rs) = joined_through (joined_with joined r) rs
+abbrev pub joined_through : ℕ → List ConfidentialVmMmioRegion → ℕ
+joined_through joined rs = fold joined_with joined rs
 
 -- with the numbers of the unused records joined; a run of which nothing is judged is not sound
 abbrev pub judged_with : Survey → ℕ → ℕ → Survey
@@ -65,11 +65,15 @@ surveyed records count q =
 
 -- 12, then 11, else 0
 unfoldable pub refusal : Survey → ℕ → ℕ → ℕ
-refusal s base size = pick (not s.sound) tables_not_sound (new_region base size).number
+refusal s base size = pick (not s.sound) tables_not_sound (number_in (new_region base size))
 
 -- a number with a count
 abbrev pub changed : ℕ → ℕ → Changed
 changed number count = record { number = number; count = count }
+
+-- what adding or removing gives back where count regions stood: a refusal keeps the count
+abbrev pub changed_by : ℕ → Result ℕ Error → Changed
+changed_by count answer = changed (number_in answer) (result_unwrap_or answer count)
 
 -- what adding answers: 12, 11, 9, 10
 unfoldable pub add_answer : Survey → ℕ → ℕ → ℕ → Changed
@@ -78,6 +82,10 @@ add_answer s count base size =
     (pick (leb max_regions count) (changed reached_max_number_of_mmio_regions count)
     (pick s.overlapping (changed overlapping_mmio_region count)
     (changed done (count + 1))))
+
+-- what asking for a region gives back: a refusal says no
+abbrev pub defined_by : Result Bool Error → Defined
+defined_by answer = record { number = number_in answer; defined = result_unwrap_or answer false }
 
 -- what asking for a region answers
 unfoldable pub defined_answer : Survey → ℕ → ℕ → Defined

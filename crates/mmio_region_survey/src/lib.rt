@@ -6,7 +6,9 @@
 #![tactic(auto)]
 
 ghost use Rattle.std.specs.Prelude.{◌≡◌, ◌+◌, ◌^◌, ◌<◌};
-ghost use Rattle.confidential_vm_mmio_region.specs.Region.{new_region};
+ghost use Rattle.std.specs.Result.{result_unwrap_or};
+ghost use Rattle.error.specs.Error.{number_in};
+ghost use Rattle.confidential_vm_mmio_region.specs.Region.{region_of, new_region};
 ghost use Rattle.mmio_region_survey.specs.Survey.{
   places_of,
   standing_of,
@@ -15,15 +17,18 @@ ghost use Rattle.mmio_region_survey.specs.Survey.{
   seen_with,
   judged_with,
   refusal,
+  changed_by,
   add_answer,
+  defined_by,
   defined_answer,
   kept_of,
 };
 
 use confidential_vm_mmio_region::ConfidentialVmMmioRegion;
+use error::Error;
 use mmio_regions::MAX_NUMBER_OF_MMIO_REGIONS;
 
-// The number that adding or removing gives, and how many regions stand then.
+// The number that adding or removing gives, and how many regions stand then: a struct of the C interface.
 #[repr(C)]
 #[derive(Clone, Copy)]
 pub struct Changed {
@@ -31,7 +36,7 @@ pub struct Changed {
     pub count: u64,
 }
 
-// The number that asking for a region gives, and whether one contains it. A refusal says no.
+// The number that asking for a region gives, and whether one contains it: a struct of the C interface. A refusal says no.
 #[repr(C)]
 #[derive(Clone, Copy)]
 pub struct Defined {
@@ -56,13 +61,13 @@ pub struct Kept {
 
 // The region that is asked for: empty where its end is too large.
 pub fn requested(base: u64, size: u64) -> ConfidentialVmMmioRegion
-    ensures { result ≡ (new_region base size).region }
+    ensures { result ≡ result_unwrap_or (new_region base size) (region_of 0 0) }
 {
-    let made = ConfidentialVmMmioRegion::new(base, size);
-    made.region
+    ConfidentialVmMmioRegion::new(base, size).unwrap_or_default()
 }
 
-// How many records of a run are judged: all 1,024, or none where the run is too short or the count too large.
+// How many records of a run are judged: all 1,024, or none where the run is too short or the count too large. The definition `places_of` is
+// this number. The look that follows goes over none of a run just as well, and such a run is not sound.
 pub fn places(length: usize, count: u64) -> u64
     ensures { result ≡ places_of length count }
 {
@@ -80,10 +85,7 @@ pub fn places(length: usize, count: u64) -> u64
 pub fn standing(places: u64, count: u64) -> u64
     ensures { result ≡ standing_of places count }
 {
-    if count < places {
-        return count;
-    }
-    places
+    count.min(places)
 }
 
 // The numbers of unused records joined, with one more. Joined they are tested once, as `table_rows::all_zero` does it.
@@ -122,56 +124,64 @@ impl Survey {
     {
         Survey {
             sound: self.sound & (places != 0) & (joined == 0),
-            overlapping: self.overlapping,
-            containing: self.containing,
+            ..self
         }
     }
 
-    // The number that refuses any request for `size` addresses from `base` on, or 0.
-    pub fn refusal(self, base: u64, size: u64) -> u64
-        ensures { result ≡ refusal self base size }
+    // Whether any request for `size` addresses from `base` on is refused: where the run is not sound, then where the end is too large.
+    pub fn check(self, base: u64, size: u64) -> Result<(), Error>
+        ensures { number_in result ≡ refusal self base size }
     {
         if !self.sound {
-            return error::TABLES_NOT_SOUND;
+            return Err(Error::TablesNotSound);
         }
-        let made = ConfidentialVmMmioRegion::new(base, size);
-        made.number
+        ConfidentialVmMmioRegion::new(base, size)?;
+        Ok(())
     }
 
-    // What adding answers.
-    pub fn add(self, count: u64, base: u64, size: u64) -> Changed
-        ensures { result ≡ add_answer self count base size }
+    // What adding answers: how many stand then.
+    pub fn add(self, count: u64, base: u64, size: u64) -> Result<u64, Error>
+        ensures { changed_by count result ≡ add_answer self count base size }
     {
-        let number = self.refusal(base, size);
-        if number != error::DONE {
-            return Changed { number, count };
-        }
+        self.check(base, size)?;
         if MAX_NUMBER_OF_MMIO_REGIONS as u64 <= count {
-            return Changed {
-                number: error::REACHED_MAX_NUMBER_OF_MMIO_REGIONS,
-                count,
-            };
+            return Err(Error::ReachedMaxNumberOfMmioRegions);
         }
         if self.overlapping {
-            return Changed {
-                number: error::OVERLAPPING_MMIO_REGION,
-                count,
-            };
+            return Err(Error::OverlappingMmioRegion);
         }
-        Changed {
-            number: error::DONE,
-            count: count + 1,
-        }
+        Ok(count + 1)
     }
 
     // What asking for a region answers.
-    pub fn is_defined(self, base: u64, size: u64) -> Defined
-        ensures { result ≡ defined_answer self base size }
+    pub fn is_defined(self, base: u64, size: u64) -> Result<bool, Error>
+        ensures { defined_by result ≡ defined_answer self base size }
     {
-        let number = self.refusal(base, size);
+        self.check(base, size)?;
+        Ok(self.containing)
+    }
+}
+
+impl Changed {
+    // What is given back where `count` regions stood: a refusal keeps the count.
+    pub fn new(count: u64, answer: Result<u64, Error>) -> Changed
+        ensures { result ≡ changed_by count answer }
+    {
+        Changed {
+            number: error::number_in(answer),
+            count: answer.unwrap_or(count),
+        }
+    }
+}
+
+// What is given back: a refusal says no.
+impl From<Result<bool, Error>> for Defined {
+    ghost from_gives = { λ answer r. r ≡ defined_by answer };
+
+    fn from(answer: Result<bool, Error>) -> Defined {
         Defined {
-            number,
-            defined: (number == error::DONE) & self.containing,
+            number: error::number_in(answer),
+            defined: answer.unwrap_or(false),
         }
     }
 }
@@ -183,7 +193,7 @@ pub fn keep(next: u64, region: ConfidentialVmMmioRegion, query: ConfidentialVmMm
 {
     if region.overlaps(query) {
         return Kept {
-            region: ConfidentialVmMmioRegion { base: 0, end: 0 },
+            region: ConfidentialVmMmioRegion::default(),
             next,
         };
     }

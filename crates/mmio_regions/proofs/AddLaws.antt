@@ -1,13 +1,16 @@
 -- What `add` leaves, for each of its three answers. Assumes nothing.
 use mathlib.Core.Path.{◌≡◌, refl, sym, ap, ap₂, ◌∙◌}
 use mathlib.Core.Bool.{Bool, true, false}
+use Rattle.std.specs.Prelude.{Ok, Err}
 use mathlib.Core.List.{List, [], ◌∷◌, ◌++◌, append_assoc}
 use Prim.Native.Nat.{ℕ, ◌+◌, ◌-◌, ◌*◌, ◌≤◌, ◌<◌, max}
 use native.Mathlib.Omega.{arith}
 use lib.ListN.{length, take, drop, length-append}
 use lib.Dec.{eqb}
 use borrow.Author.Tests.{le-leb, lt-leb}
-use Rattle.error.specs.Error.{done, reached_max_number_of_mmio_regions, overlapping_mmio_region}
+use Rattle.error.specs.Error.{done, number_of}
+use Rattle.error.specs.declared.Error.{Error}
+use Rattle.error.specs.declared.Error.TheVariants.{ReachedMaxNumberOfMmioRegions, OverlappingMmioRegion}
 use Rattle.table_rows.specs.Rows.{put}
 use Rattle.table_rows.specs.Choice.{pick}
 use Rattle.table_rows.proofs.PickLaws.{yes, no}
@@ -21,9 +24,9 @@ module _ (xs : List ℕ) (count : ℕ) (q : ConfidentialVmMmioRegion) (sized : S
   rs = standing xs count
 
   -- a refusal leaves the table as it was
-  refused : (number : ℕ) → number ≡ add_number q rs → eqb number done ≡ false → addition (record { number = number; count = count }) xs ≡ added xs count q
+  refused : (e : Error) → number_of e ≡ add_number q rs → eqb (number_of e) done ≡ false → addition count (Err e) xs ≡ added xs count q
   unfolding added with_added
-  refused number e other =
+  refused _ e other =
       let same : rs ≡ pick (eqb (add_number q rs) done) (rs ++ (q ∷ [])) rs = no _ (ap (λ (n : ℕ). eqb n done) (sym e) ∙ other) refl in
       let length-same : count ≡ length (pick (eqb (add_number q rs) done) (rs ++ (q ∷ [])) rs) =
       sym (standing_length xs count) ∙ ap length same in
@@ -32,18 +35,18 @@ module _ (xs : List ℕ) (count : ℕ) (q : ConfidentialVmMmioRegion) (sized : S
         after = ap₂ table length-same (sym (laid_same xs count (omega arith)) ∙ ap (laid xs count) same) i;
       }
 
-  pub add_full : max_regions ≤ count → addition (record { number = reached_max_number_of_mmio_regions; count = count }) xs ≡ added xs count q
+  pub add_full : max_regions ≤ count → addition count (Err ReachedMaxNumberOfMmioRegions) xs ≡ added xs count q
   unfolding add_number
   add_full full =
-      refused reached_max_number_of_mmio_regions
+      refused ReachedMaxNumberOfMmioRegions
       (yes _ (le-leb max_regions (length rs) (omega (arith, standing_length xs count))) refl)
       refl
 
   module _ (room : count < max_regions) (overlapping : Bool) (e : overlapping ≡ any_overlaps q rs) where
-    pub add_overlapping : overlapping ≡ true → addition (record { number = overlapping_mmio_region; count = count }) xs ≡ added xs count q
+    pub add_overlapping : overlapping ≡ true → addition count (Err OverlappingMmioRegion) xs ≡ added xs count q
     unfolding add_number
     add_overlapping t =
-        refused overlapping_mmio_region
+        refused OverlappingMmioRegion
         (no _ (lt-leb max_regions (length rs) (omega (arith, standing_length xs count))) (yes _ (sym e ∙ t) refl))
         refl
 
@@ -65,7 +68,7 @@ module _ (xs : List ℕ) (count : ℕ) (q : ConfidentialVmMmioRegion) (sized : S
         (append_assoc (take (count * region_words) xs) (words_of (q ∷ [])) (drop (count * region_words + region_words) xs)))
 
     pub add_done : overlapping ≡ false
-        → addition (record { number = done; count = count + 1 }) (put region_words xs count (words_of (q ∷ []))) ≡ added xs count q
+        → addition count (Ok (count + 1)) (put region_words xs count (words_of (q ∷ []))) ≡ added xs count q
     unfolding added with_added
     add_done f =
         let more : rs ++ (q ∷ []) ≡ pick (eqb (add_number q rs) done) (rs ++ (q ∷ [])) rs =

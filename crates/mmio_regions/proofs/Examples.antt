@@ -2,14 +2,15 @@
 use mathlib.Core.Path.{◌≡◌, refl}
 use mathlib.Core.List.{List, [], ◌∷◌, map}
 use Prim.Native.Nat.{ℕ, ◌-◌, ◌^◌}
-use Rattle.error.specs.Error.{done, overlapping_mmio_region, end_too_large}
+use Rattle.std.specs.Prelude.{Result, Ok, Err}
+use Rattle.error.specs.declared.Error.{Error}
+use Rattle.error.specs.Error.{done, number_of, overlapping_mmio_region, end_too_large}
 use Rattle.table_rows.specs.Choice.{pick}
 use Rattle.confidential_vm_mmio_region.specs.Region.{max_end, region_of, new_region}
 use Rattle.table_rows.specs.Lists.{any_of}
 use Rattle.mmio_regions.specs.Regions.{add_number, with_added, with_removed}
 use Rattle.mmio_regions.specs.Table.{words_of}
 use Rattle.confidential_vm_mmio_region.specs.declared.ConfidentialVmMmioRegion.{ConfidentialVmMmioRegion}
-use Rattle.confidential_vm_mmio_region.specs.declared.NewRegion.{NewRegion}
 
 -- what the definitions give, and what the document says
 pub record Example : Type 0 where
@@ -22,8 +23,14 @@ adding rs [] = []
 adding rs (q ∷ qs) = add_number q rs ∷ adding (with_added q rs) qs
 
 -- a region made: the number, base and end
-making : NewRegion → List ℕ
-making n = n.number ∷ n.region.base ∷ n.region.end ∷ []
+making : Result ConfidentialVmMmioRegion Error → List ℕ
+making (Ok r) = done ∷ r.base ∷ r.end ∷ []
+making (Err e) = number_of e ∷ 0 ∷ 0 ∷ []
+
+-- a region made and then added to none: the number given
+making_adding : Result ConfidentialVmMmioRegion Error → List ℕ
+making_adding (Ok r) = adding [] (r ∷ [])
+making_adding (Err e) = number_of e ∷ []
 
 abbrev first : ConfidentialVmMmioRegion
 first = region_of 4096 8192
@@ -45,10 +52,10 @@ examples =
     }
     -- P5 base 2^64 − 1: size 0 added, size 1 is 11
     ∷ record { given = making (new_region (2 ^ 64 - 1) 0); said = done ∷ max_end ∷ max_end ∷ [] }
-    ∷ record { given = adding [] ((new_region (2 ^ 64 - 1) 0).region ∷ []); said = done ∷ [] }
+    ∷ record { given = making_adding (new_region (2 ^ 64 - 1) 0); said = done ∷ [] }
     ∷ record { given = making (new_region (2 ^ 64 - 1) 1); said = end_too_large ∷ 0 ∷ 0 ∷ [] }
     ∷ []
 
 pub as_said : map (λ (e : Example). e.given) examples ≡ map (λ (e : Example). e.said) examples
-unfolding examples adding making pick new_region any_of add_number with_added with_removed words_of
+unfolding examples adding making making_adding pick new_region any_of add_number with_added with_removed words_of
 as_said = refl

@@ -1,18 +1,19 @@
 -- The region table against the list of regions that stand in it. Assumes nothing.
+use Rattle.std.specs.List.{range_with_len, list_any}
+use Rattle.std.specs.Option.{MatchOption, unwrap_or}
+use Rattle.std.specs.Prelude.{Option, Some, None}
+use Rattle.std.proofs.lemmas.List.FromFn.{map-range_with_len_more}
+use Rattle.std.proofs.lemmas.List.{map-append}
 use mathlib.Core.Path.{◌≡◌, refl, sym, ap, ap₂, ◌∙◌}
-use mathlib.Core.Bool.{Bool, true, false, ◌&&◌, ◌||◌, or-true}
-use mathlib.Core.List.{List, [], ◌∷◌, ◌++◌, append_assoc}
-use mathlib.Core.Logic.{⊎_elim}
+use mathlib.Core.Bool.{Bool, true, false, ◌&&◌, ◌||◌}
+use mathlib.Core.List.{List, [], ◌∷◌, ◌++◌, append_assoc, map}
 use Prim.Native.Nat.{ℕ, zero, suc, ◌+◌, ◌-◌, ◌*◌, ◌≤◌, ◌<◌, max}
-use native.Mathlib.Nat.{suc-mul, not-suc-le-zero, le_of_suc-le-suc, eq-or-lt_of_le, le_antisymm}
+use native.Mathlib.Nat.{suc-mul}
 use native.Mathlib.Numerals.{add-one}
 use native.Mathlib.Omega.{arith}
 use lib.ListN.{length, get_or, set, take, drop, replicate, length-append, length-drop, length-replicate, take-append-drop}
 use lib.Seq.{sets-eq, take-add, drop-drop, drop_at}
-use lib.Dec.{ltb}
-use borrow.Author.Tests.{ltb-true, ltb-false}
 use Rattle.table_rows.specs.Rows.{row, word_at, put}
-use Rattle.table_rows.proofs.PickLaws.{by_test}
 use Rattle.table_rows.proofs.RowLaws.{row_length, words_all}
 use Rattle.confidential_vm_mmio_region.specs.Region.{region_of}
 use Rattle.table_rows.specs.Lists.{up_to, any_of, all_of}
@@ -87,63 +88,53 @@ unfolding standing up_to words_of word_at row
 standing_of_lem [] ys = refl
 standing_of_lem (r ∷ rs) ys = first_stands (words_of (r ∷ rs) ++ ys) (length rs) ∙ ap (λ (ss : List ConfidentialVmMmioRegion). r ∷ ss) (standing_of_lem rs ys)
 
--- ---- a test of the regions that stand, place by place
+-- ---- a test of the regions that stand, by the numbers of their places
 
--- one more place, of a test that joins its regions by op
-next_by : (test : List ConfidentialVmMmioRegion → Bool) (op : Bool → Bool → Bool) (f : ConfidentialVmMmioRegion → Bool)
-    → ((r : ConfidentialVmMmioRegion) (rs : List ConfidentialVmMmioRegion) → test (rs ++ (r ∷ [])) ≡ op (test rs) (f r))
-    → (xs : List ℕ) (i : ℕ) {flag b : Bool} → flag ≡ test (standing xs i) → b ≡ f (region_at xs i) → op flag b ≡ test (standing xs (i + 1))
-next_by test op f last xs i p e = rw (standing_next xs i, last (region_at xs i) (standing xs i), p, e)
+-- the regions that stand are those in the first n places
+pub standing_map : (xs : List ℕ) (n : ℕ) → standing xs n ≡ map (region_at xs) (range_with_len 0 n)
+unfolding standing up_to
+standing_map xs zero = refl
+standing_map xs (suc n) =
+    ap (λ (rs : List ConfidentialVmMmioRegion). rs ++ (region_at xs n ∷ [])) (standing_map xs n)
+    ∙ sym (map-range_with_len_more (region_at xs) 0 n n (omega arith))
+    ∙ ap (λ (k : ℕ). map (region_at xs) (range_with_len 0 k)) (add-one n)
 
 module _ (f : ConfidentialVmMmioRegion → Bool) (xs : List ℕ) where
-  -- a flag carried through, whether all pass
-  pub all_none : true ≡ all_of f (standing xs 0)
-  unfolding all_of standing up_to
-  all_none = refl
+  any_map : (is : List ℕ) → list_any (λ i. f (region_at xs i)) is ≡ any_of f (map (region_at xs) is)
+  unfolding any_of
+  any_map [] = refl
+  any_map (i ∷ is) = ap (λ (b : Bool). f (region_at xs i) || b) (any_map is)
 
-  pub all_next : (i : ℕ) {ok b : Bool} → ok ≡ all_of f (standing xs i) → b ≡ f (region_at xs i) → ok && b ≡ all_of f (standing xs (i + 1))
-  all_next = next_by (all_of f) ◌&&◌ f (all_last f) xs
+  -- one passes
+  pub any_standing : (n : ℕ) → list_any (λ i. f (region_at xs i)) (range_with_len 0 n) ≡ any_of f (standing xs n)
+  any_standing n = any_map (range_with_len 0 n) ∙ ap (any_of f) (sym (standing_map xs n))
 
-  pub all_done : (i n : ℕ) {ok : Bool} → ok ≡ all_of f (standing xs i) → i ≤ n → n ≤ i → ok ≡ all_of f (standing xs n)
-  all_done i n p l g = p ∙ ap (λ (k : ℕ). all_of f (standing xs k)) (le_antisymm l g)
-
-  -- a search that ends at the first that passes
-  pub none_yet : any_of f (standing xs 0) ≡ false
+  -- none passes
+  none_passes : (n : ℕ) → ((k : ℕ) → k < n → f (region_at xs k) ≡ false) → any_of f (standing xs n) ≡ false
   unfolding any_of standing up_to
-  none_yet = refl
+  none_passes zero h = refl
+  none_passes (suc n) h =
+      any_last f (region_at xs n) (standing xs n) ∙ rw (none_passes n (λ k l. h k (omega arith)), h n (omega arith)) refl
 
-  -- the region r that was read in place i, and what its test b gave
-  module _ (i : ℕ) (p : any_of f (standing xs i) ≡ false) {r : ConfidentialVmMmioRegion} (read : r ≡ region_at xs i) {b : Bool} (e : b ≡ f r) where
-    pub none_next : b ≡ false → any_of f (standing xs (i + 1)) ≡ false
-    none_next no-pass = sym (next_by (any_of f) ◌||◌ f (any_last f) xs i (sym p) (sym no-pass ∙ e ∙ ap f read))
+  -- a flag carried through them, from ok at the first on
+  pub carried : (ys : List ℕ) (ok b : Bool) (i : ℕ) → ok ≡ all_of f (map (region_at xs) ys) → b ≡ f (region_at xs i)
+      → ok && b ≡ all_of f (map (region_at xs) (ys ++ (i ∷ [])))
+  carried ys ok b i p e = rw (p, e) (sym (ap (all_of f) (map-append (region_at xs) ys (i ∷ [])) ∙ all_last f (region_at xs i) (map (region_at xs) ys)))
 
-    pub first_here : (n : ℕ) → i < n → b ≡ true → First f xs n i
-    first_here n l pass = record { within = omega arith; before = p; here = λ _. ap f (sym read) ∙ sym e ∙ pass }
-
-  pub first_none : (i n : ℕ) → any_of f (standing xs i) ≡ false → i ≤ n → n ≤ i → First f xs n n
-  first_none i n p l g = record {
+  -- the first that passes, as a search gives it
+  pub first_found : (n : ℕ) (r : Option ℕ) → MatchOption r ((k : ℕ) → 0 ≤ k → k < n → f (region_at xs k) ≡ false)
+      (λ i. (0 ≤ i) × (i < n) × (f (region_at xs i) ≡ true) × ((k : ℕ) → 0 ≤ k → k < i → f (region_at xs k) ≡ false))
+      → First f xs n (unwrap_or r n)
+  first_found n None h = record {
     within = omega arith;
-    before = rw (le_antisymm l g) at p;
-    here = λ m. absurd (omega arith);
+    before = none_passes n (λ k l. h k (omega arith) l);
+    here = λ l. absurd (omega arith);
   }
-
-  -- a place that passes settles it
-  any_at : (i n : ℕ) → i < n → f (region_at xs i) ≡ true → any_of f (standing xs n) ≡ true
-  unfolding standing up_to
-  any_at i zero l e = absurd (not-suc-le-zero l)
-  any_at i (suc n) l e =
-      any_last f (region_at xs n) (standing xs n)
-      ∙ ⊎_elim
-      (λ q. rw (← q, e) (or-true (any_of f (standing xs i))))
-      (λ lt. rw (any_at i n lt e))
-      (eq-or-lt_of_le (le_of_suc-le-suc l))
-
-  -- so one passes exactly when the first is one of the places
-  pub first_any : {n i : ℕ} → First f xs n i → ltb i n ≡ any_of f (standing xs n)
-  first_any {n} {i} s =
-      by_test (ltb i n)
-      (λ t. t ∙ sym (any_at i n (ltb-true i n t) (s.here (ltb-true i n t))))
-      (λ u. u ∙ sym (rw (le_antisymm s.within (ltb-false i n u)) at s.before))
+  first_found n (Some i) h = record {
+    within = omega (arith, h.1);
+    before = none_passes i (λ k l. h.3 k (omega arith) l);
+    here = λ _. h.2;
+  }
 
 -- ---- regions laid into the table
 

@@ -1,12 +1,14 @@
 -- The region table: 1,024 places of base and end in a flat list. The first count stand; what lies past the last place belongs to no table.
-use Rattle.std.specs.Prelude.{ℕ, ◌-◌, ◌*◌, ◌≤◌, ◌<◌, max, ◌≡◌, Bool, true, false, ◌&&◌, List, [], ◌∷◌, ◌++◌, length, take, drop, replicate, leb}
+use Rattle.std.specs.Prelude.{ℕ, ◌-◌, ◌*◌, ◌≤◌, ◌<◌, max, ◌≡◌, Bool, true, false, ◌&&◌, List, [], ◌∷◌, ◌++◌, length, take, drop, replicate, Result, leb}
+use Rattle.std.specs.Result.{result_unwrap_or}
+use Rattle.error.specs.Error.{number_in}
+use Rattle.error.specs.declared.Error.{Error}
 use Rattle.table_rows.specs.Rows.{word_at}
 use Rattle.table_rows.specs.Choice.{all_zero}
 use Rattle.confidential_vm_mmio_region.specs.Region.{region_of, ordered}
 use Rattle.table_rows.specs.Lists.{up_to, any_of, all_of}
 use Rattle.mmio_regions.specs.Regions.{max_regions, add_number, with_added, with_removed}
 use Rattle.confidential_vm_mmio_region.specs.declared.ConfidentialVmMmioRegion.{ConfidentialVmMmioRegion}
-use Rattle.mmio_regions.specs.declared.Added.{Added}
 
 -- words in a place
 abbrev pub region_words : ℕ
@@ -73,9 +75,9 @@ pub record Addition : Type 0 where
   pub number : ℕ
   pub after : Table
 
--- what add answered, and the words it left
-abbrev pub addition : Added → List ℕ → Addition
-addition r words = record { number = r.number; after = table r.count words }
+-- what add answered where count regions stood, and the words it left
+abbrev pub addition : ℕ → Result ℕ Error → List ℕ → Addition
+addition count answer words = record { number = number_in answer; after = table (result_unwrap_or answer count) words }
 
 -- the region q added
 unfoldable pub added : List ℕ → ℕ → ConfidentialVmMmioRegion → Addition

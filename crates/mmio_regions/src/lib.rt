@@ -1,12 +1,12 @@
 // SPDX-FileCopyrightText: 2023 IBM Corporation
 // SPDX-FileContributor: Wojciech Ozga <woz@zurich.ibm.com>, IBM Research - Zurich
 // SPDX-License-Identifier: Apache-2.0
-// Changed: ported to Rattle from the MMIO regions of core/control_data/confidential_vm.rs. They are a lent run of numbers with a count.
+// Changed: ported to Rattle from the MMIO regions of core/control_data/confidential_vm.rs. They are a lent run of numbers with a count:
+// the C interface lends the words (`regions`) apart from the count, which stands in `head`.
 #![tactic(auto)]
 
-ghost use Rattle.std.specs.Prelude.{◌≡◌, ◌+◌, ◌*◌, ◌^◌, ◌≤◌, ◌<◌, [], ◌∷◌, length};
+ghost use Rattle.std.specs.Prelude.{◌≡◌, ◌+◌, ◌*◌, ◌≤◌, [], ◌∷◌, length};
 ghost use Rattle.table_rows.specs.Rows.{put};
-ghost use Rattle.table_rows.specs.Choice.{pick};
 ghost use Rattle.confidential_vm_mmio_region.specs.Region.{overlaps, contains, ordered};
 ghost use Rattle.table_rows.specs.Lists.{all_of};
 ghost use Rattle.mmio_regions.specs.Regions.{any_overlaps, any_contains};
@@ -25,6 +25,7 @@ ghost use Rattle.mmio_regions.specs.Table.{
 };
 
 use confidential_vm_mmio_region::ConfidentialVmMmioRegion;
+use error::Error;
 
 // How many MMIO regions a confidential VM can register.
 pub const MAX_NUMBER_OF_MMIO_REGIONS: usize = 1024;
@@ -35,14 +36,7 @@ pub const REGION_WORDS: usize = 2;
 // Words of the whole table.
 pub const TABLE_WORDS: usize = MAX_NUMBER_OF_MMIO_REGIONS * REGION_WORDS;
 
-// The number that adding a region gives, and how many regions stand then.
-#[derive(Clone, Copy)]
-pub struct Added {
-    pub number: u64,
-    pub count: u64,
-}
-
-// The region in place `i`.
+// The region in place `i`. Its words lie in a lent run and are no array, so this and the next are no `From`.
 fn region(regions: &[u64], i: usize) -> ConfidentialVmMmioRegion
     requires { i * region_words + region_words ≤ length regions.now }
     ensures { result ≡ region_at regions.now i }
@@ -68,15 +62,10 @@ fn all_ordered(regions: &[u64], count: u64) -> bool
     requires { count * region_words ≤ length regions.now }
     ensures { result ≡ all_of ordered (standing regions.now count) }
 {
-    let n = count as usize;
-    let mut ok = true;
-    let mut i = 0;
-    while i < n {
+    (0..count as usize).fold(true, |ok, i| {
         let r = region(regions, i);
-        ok = ok & (r.base <= r.end);
-        i += 1;
-    }
-    ok
+        ok & (r.base <= r.end)
+    })
 }
 
 // Whether the table is sound: any words with any count.
@@ -89,49 +78,27 @@ pub fn regions_are_sound(regions: &[u64], count: u64) -> bool
     if (MAX_NUMBER_OF_MMIO_REGIONS as u64) < count {
         return false;
     }
-    let a = count as usize * REGION_WORDS;
-    let e = TABLE_WORDS;
-    all_ordered(regions, count) & table_rows::all_zero(&regions[a..e])
+    let unused = &regions[count as usize * REGION_WORDS..TABLE_WORDS];
+    all_ordered(regions, count) & table_rows::all_zero(unused)
 }
 
-// The first place whose region overlaps the query, or `count`. It gives the place and no flag, which the loop would make in each turn.
+// The first place whose region overlaps the query, or `count`.
 fn find_overlapping(regions: &[u64], count: u64, query: ConfidentialVmMmioRegion) -> usize
     requires { count * region_words ≤ length regions.now }
     ensures { First (λ x. overlaps x query) regions.now count result }
 {
     let n = count as usize;
-    let mut i = 0;
-    while i < n {
-        if region(regions, i).overlaps(query) {
-            return i;
-        }
-        i += 1;
-    }
-    n
+    (0..n)
+        .find(|i| region(regions, *i).overlaps(query))
+        .unwrap_or(n)
 }
 
-// The first place whose region contains the query, or `count`.
-fn find_containing(regions: &[u64], count: u64, query: ConfidentialVmMmioRegion) -> usize
-    requires { count * region_words ≤ length regions.now }
-    ensures { First (λ x. contains x query) regions.now count result }
-{
-    let n = count as usize;
-    let mut i = 0;
-    while i < n {
-        if region(regions, i).contains(query) {
-            return i;
-        }
-        i += 1;
-    }
-    n
-}
-
-// Whether one of the first `count` regions overlaps the query.
+// Whether one of the first `count` regions overlaps the query. This and the next are one `any` each.
 fn overlaps_any(regions: &[u64], count: u64, query: ConfidentialVmMmioRegion) -> bool
     requires { count * region_words ≤ length regions.now }
     ensures { result ≡ any_overlaps query (standing regions.now count) }
 {
-    find_overlapping(regions, count, query) < count as usize
+    (0..count as usize).any(|i| region(regions, i).overlaps(query))
 }
 
 // Whether one of the first `count` regions contains the query.
@@ -139,64 +106,41 @@ pub fn is_mmio_region_defined(regions: &[u64], count: u64, query: ConfidentialVm
     requires { count * region_words ≤ length regions.now }
     ensures { result ≡ any_contains query (standing regions.now count) }
 {
-    find_containing(regions, count, query) < count as usize
+    (0..count as usize).any(|i| region(regions, i).contains(query))
 }
 
 // Adds a region after the first `count`: it is refused when all places are taken, then when it overlaps one. A region that `new` made has
 // its base no higher than its end, and leaves a sound table sound.
-pub fn add(regions: &mut [u64], count: u64, region: ConfidentialVmMmioRegion) -> Added
+pub fn add(regions: &mut [u64], count: u64, region: ConfidentialVmMmioRegion) -> Result<u64, Error>
     requires { Sized regions.old count }
-    ensures { addition result regions.new ≡ added regions.old count region }
+    ensures { addition count result regions.new ≡ added regions.old count region }
 {
     if MAX_NUMBER_OF_MMIO_REGIONS as u64 <= count {
-        return Added {
-            number: error::REACHED_MAX_NUMBER_OF_MMIO_REGIONS,
-            count: count,
-        };
+        return Err(Error::ReachedMaxNumberOfMmioRegions);
     }
-    let overlapping = overlaps_any(regions, count, region);
-    if overlapping {
-        return Added {
-            number: error::OVERLAPPING_MMIO_REGION,
-            count: count,
-        };
+    if overlaps_any(regions, count, region) {
+        return Err(Error::OverlappingMmioRegion);
     }
     set_region(regions, count as usize, region);
-    Added {
-        number: error::DONE,
-        count: count + 1,
-    }
-}
-
-// One more than `kept` where the region does not overlap the query.
-fn keeps(kept: usize, region: ConfidentialVmMmioRegion, query: ConfidentialVmMmioRegion) -> usize
-    requires { kept + 1 < 2 ^ 64 }
-    ensures { result ≡ pick (overlaps region query) kept (kept + 1) }
-{
-    if region.overlaps(query) {
-        kept
-    } else {
-        kept + 1
-    }
+    Ok(count + 1)
 }
 
 // Removes each of the first `count` regions that overlaps the query, and keeps the order of the others. From the first that overlaps on,
-// each is written to the next place that is kept, and the freed places are cleared. The answer is how many stand then.
+// each is written to the next place that is kept, which `kept` counts, and the freed places are cleared: a slice has no `retain`. The answer is
+// how many stand then.
 pub fn remove(regions: &mut [u64], count: u64, query: ConfidentialVmMmioRegion) -> u64
     requires { Sized regions.old count }
     ensures { table result regions.new ≡ removed regions.old count query }
 {
     let n = count as usize;
     let mut kept = find_overlapping(regions, count, query);
-    let mut i = kept;
-    while i < n {
+    for i in kept..n {
         let r = region(regions, i);
         set_region(regions, kept, r);
-        kept = keeps(kept, r, query);
-        i += 1;
+        if !r.overlaps(query) {
+            kept += 1;
+        }
     }
-    let a = kept * REGION_WORDS;
-    let e = n * REGION_WORDS;
-    table_rows::clear(&mut regions[a..e]);
+    regions[kept * REGION_WORDS..n * REGION_WORDS].fill(0);
     kept as u64
 }

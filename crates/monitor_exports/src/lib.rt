@@ -1,6 +1,7 @@
-// The entries of the tables and of the flow as C functions: plain numbers and lent tables in, and a lent room for effects where commands
-// are done, and document 01's number back. An answer's values go over the front of one more lent slice; those that do commands write
-// before them how many effect records they wrote. Each promises what the entry that it calls promises, for any numbers and any tables.
+// The entries of the tables and of the flow as C functions: plain numbers and lent tables in, and a lent room for effects where commands are
+// done, and document 01's number back. An answer's values go over the front of one more lent slice; those that do commands write before them
+// how many effect records they wrote. C needs a name and arguments for each, so there are eighteen alike. Each promises what the entry that
+// it calls promises, for any numbers and any tables.
 #![tactic(auto)]
 
 ghost use Rattle.std.specs.Prelude.{◌≡◌, ◌≤◌, length};
@@ -13,6 +14,7 @@ ghost use Rattle.monitor_exports.specs.Replies.{reply_value_words, reply_told, r
 
 use confidential_hart::{ConfidentialHartId, HardwareHartId};
 use confidential_hart_remote_command::ConfidentialHartRemoteCommand;
+use error::Error;
 use monitor_requests::{Reply, Setup};
 
 // How many words are asked for an answer's values: an operation has the most.
@@ -63,7 +65,7 @@ pub extern "C" fn oudrameng_new(
         vsatp,
         vsstatus,
     };
-    confidential_vm_setup::new(setup, head, home, hardware, queues, regions).number()
+    error::number_in(confidential_vm_setup::new(setup, head, home, hardware, queues, regions))
 }
 
 // Assigns a hart to a hardware hart. The value is the mask of external interrupts.
@@ -82,7 +84,7 @@ pub extern "C" fn oudrameng_steal_confidential_hart(
         ≡ valued (Steal (hart_id hart) (hardware_hart_id on)) value.old (tables head.now home.old hardware.old queues.now regions.now) }
 {
     if value.len() < VALUE_WORDS {
-        return error::ROOM_TOO_SHORT;
+        return Error::RoomTooShort.number();
     }
     let answer = confidential_vm::steal_confidential_hart(
         ConfidentialHartId(hart),
@@ -109,14 +111,14 @@ pub extern "C" fn oudrameng_return_confidential_hart(
     ensures { numbered result (tables head.now home.new hardware.new queues.now regions.now)
         ≡ unvalued (Return (hardware_hart_id on)) (tables head.now home.old hardware.old queues.now regions.now) }
 {
-    confidential_vm::return_confidential_hart(
+    error::number_in(confidential_vm::return_confidential_hart(
         HardwareHartId(on),
         head,
         home,
         hardware,
         queues,
         regions,
-    ).number()
+    ))
 }
 
 // Allows external interrupts.
@@ -132,7 +134,9 @@ pub extern "C" fn oudrameng_allow_external_interrupt(
     ensures { numbered result (tables head.new home.now hardware.now queues.now regions.now)
         ≡ unvalued (Allow bits) (tables head.old home.now hardware.now queues.now regions.now) }
 {
-    confidential_vm::allow_external_interrupt(bits, head, home, hardware, queues, regions).number()
+    error::number_in(confidential_vm::allow_external_interrupt(
+        bits, head, home, hardware, queues, regions,
+    ))
 }
 
 // Starts a hart.
@@ -150,7 +154,7 @@ pub extern "C" fn oudrameng_start_confidential_hart(
     ensures { numbered result (tables head.now home.new hardware.now queues.now regions.now)
         ≡ unvalued (Start (hart_id hart) address opaque) (tables head.now home.old hardware.now queues.now regions.now) }
 {
-    confidential_vm_lifecycle::start_confidential_hart(
+    error::number_in(confidential_vm_lifecycle::start_confidential_hart(
         ConfidentialHartId(hart),
         address,
         opaque,
@@ -159,8 +163,7 @@ pub extern "C" fn oudrameng_start_confidential_hart(
         hardware,
         queues,
         regions,
-    )
-    .number()
+    ))
 }
 
 // The value is the lifecycle of a hart.
@@ -178,7 +181,7 @@ pub extern "C" fn oudrameng_confidential_hart_lifecycle_state(
         ≡ valued (Status (hart_id hart)) value.old (tables head.now home.now hardware.now queues.now regions.now) }
 {
     if value.len() < VALUE_WORDS {
-        return error::ROOM_TOO_SHORT;
+        return Error::RoomTooShort.number();
     }
     let answer = confidential_vm_lifecycle::confidential_hart_lifecycle_state(
         ConfidentialHartId(hart),
@@ -205,7 +208,7 @@ pub extern "C" fn oudrameng_is_vm_executing(
         ≡ valued Home value.old (tables head.now home.now hardware.now queues.now regions.now) }
 {
     if value.len() < VALUE_WORDS {
-        return error::ROOM_TOO_SHORT;
+        return Error::RoomTooShort.number();
     }
     let answer = confidential_vm_lifecycle::is_vm_executing(head, home, hardware, queues, regions);
     export_values::tell(answer, value)
@@ -232,7 +235,7 @@ pub extern "C" fn oudrameng_broadcast_remote_command(
         ≡ valued (Send sender (command_of kind mask base start size tag)) value.old (tables head.now home.now hardware.now queues.old regions.now) }
 {
     if value.len() < VALUE_WORDS {
-        return error::ROOM_TOO_SHORT;
+        return Error::RoomTooShort.number();
     }
     let c = ConfidentialHartRemoteCommand {
         kind,
@@ -262,9 +265,9 @@ pub extern "C" fn oudrameng_add_mmio_region(
     ensures { numbered result (tables head.new home.now hardware.now queues.now regions.new)
         ≡ unvalued (Add base size) (tables head.old home.now hardware.now queues.now regions.old) }
 {
-    confidential_vm_mmio_regions::add_mmio_region(
+    error::number_in(confidential_vm_mmio_regions::add_mmio_region(
         base, size, head, home, hardware, queues, regions,
-    ).number()
+    ))
 }
 
 // Removes the regions that overlap one.
@@ -281,9 +284,9 @@ pub extern "C" fn oudrameng_remove_mmio_region(
     ensures { numbered result (tables head.new home.now hardware.now queues.now regions.new)
         ≡ unvalued (Remove base size) (tables head.old home.now hardware.now queues.now regions.old) }
 {
-    confidential_vm_mmio_regions::remove_mmio_region(
+    error::number_in(confidential_vm_mmio_regions::remove_mmio_region(
         base, size, head, home, hardware, queues, regions,
-    ).number()
+    ))
 }
 
 // The value is 1 where a region contains the one given, and else 0.
@@ -302,7 +305,7 @@ pub extern "C" fn oudrameng_is_mmio_region_defined(
         ≡ valued (Defined base size) value.old (tables head.now home.now hardware.now queues.now regions.now) }
 {
     if value.len() < VALUE_WORDS {
-        return error::ROOM_TOO_SHORT;
+        return Error::RoomTooShort.number();
     }
     let answer = confidential_vm_mmio_regions::is_mmio_region_defined(
         base, size, head, home, hardware, queues, regions,
@@ -315,8 +318,7 @@ fn tell_reply(given: Reply, value: &mut [u64]) -> u64
     requires { reply_value_words ≤ length value.old }
     ensures { written result value.new ≡ reply_told given value.old }
 {
-    let answer = given.answer;
-    let number = export_values::tell(answer, &mut value[1..]);
+    let number = export_values::tell(given.answer, &mut value[1..]);
     value[0] = given.did;
     number
 }
@@ -334,14 +336,14 @@ pub extern "C" fn oudrameng_suspend_confidential_hart(
     ensures { numbered result (tables head.now home.now hardware.new queues.now regions.now)
         ≡ unvalued (Suspend (hardware_hart_id on)) (tables head.now home.now hardware.old queues.now regions.now) }
 {
-    confidential_flow_lifecycle::suspend_confidential_hart(
+    error::number_in(confidential_flow_lifecycle::suspend_confidential_hart(
         HardwareHartId(on),
         head,
         home,
         hardware,
         queues,
         regions,
-    ).number()
+    ))
 }
 
 // The hart that a hardware hart holds stops.
@@ -357,14 +359,14 @@ pub extern "C" fn oudrameng_stop_confidential_hart(
     ensures { numbered result (tables head.now home.now hardware.new queues.now regions.now)
         ≡ unvalued (Stop (hardware_hart_id on)) (tables head.now home.now hardware.old queues.now regions.now) }
 {
-    confidential_flow_lifecycle::stop_confidential_hart(
+    error::number_in(confidential_flow_lifecycle::stop_confidential_hart(
         HardwareHartId(on),
         head,
         home,
         hardware,
         queues,
         regions,
-    ).number()
+    ))
 }
 
 // The hart that a hardware hart holds wakes.
@@ -382,7 +384,7 @@ pub extern "C" fn oudrameng_resume_confidential_hart(
     ensures { numbered result (tables head.now home.now hardware.new queues.now regions.now)
         ≡ unvalued (Wake (hardware_hart_id on) address opaque) (tables head.now home.now hardware.old queues.now regions.now) }
 {
-    confidential_flow_lifecycle::resume_confidential_hart(
+    error::number_in(confidential_flow_lifecycle::resume_confidential_hart(
         HardwareHartId(on),
         address,
         opaque,
@@ -391,8 +393,7 @@ pub extern "C" fn oudrameng_resume_confidential_hart(
         hardware,
         queues,
         regions,
-    )
-    .number()
+    ))
 }
 
 // The hart that a hardware hart holds is powered off.
@@ -408,14 +409,14 @@ pub extern "C" fn oudrameng_shutdown_confidential_hart(
     ensures { numbered result (tables head.now home.now hardware.new queues.now regions.now)
         ≡ unvalued (Off (hardware_hart_id on)) (tables head.now home.now hardware.old queues.now regions.now) }
 {
-    confidential_flow_lifecycle::shutdown_confidential_hart(
+    error::number_in(confidential_flow_lifecycle::shutdown_confidential_hart(
         HardwareHartId(on),
         head,
         home,
         hardware,
         queues,
         regions,
-    ).number()
+    ))
 }
 
 // Sets the operation that the hart on a hardware hart waits for.
@@ -434,7 +435,7 @@ pub extern "C" fn oudrameng_set_resumable_operation(
     ensures { numbered result (tables head.now home.now hardware.new queues.now regions.now)
         ≡ unvalued (Await (hardware_hart_id on) kind x y) (tables head.now home.now hardware.old queues.now regions.now) }
 {
-    confidential_flow::set_resumable_operation(
+    error::number_in(confidential_flow::set_resumable_operation(
         HardwareHartId(on),
         kind,
         x,
@@ -444,8 +445,7 @@ pub extern "C" fn oudrameng_set_resumable_operation(
         hardware,
         queues,
         regions,
-    )
-    .number()
+    ))
 }
 
 // Sends a command from the hart that a hardware hart holds. The value is the mask of hardware harts to interrupt.
@@ -471,7 +471,7 @@ pub extern "C" fn oudrameng_flow_broadcast_remote_command(
         value.old (tables head.now home.now hardware.old queues.old regions.now) effects.old }
 {
     if value.len() < REPLY_VALUE_WORDS {
-        return error::ROOM_TOO_SHORT;
+        return Error::RoomTooShort.number();
     }
     let c = ConfidentialHartRemoteCommand {
         kind,
@@ -510,7 +510,7 @@ pub extern "C" fn oudrameng_process_confidential_hart_remote_commands(
         ≡ reply_valued (Process (hardware_hart_id on)) value.old (tables head.now home.now hardware.old queues.old regions.now) effects.old }
 {
     if value.len() < REPLY_VALUE_WORDS {
-        return error::ROOM_TOO_SHORT;
+        return Error::RoomTooShort.number();
     }
     let given = confidential_flow_remote_commands::process_confidential_hart_remote_commands(
         HardwareHartId(on),
@@ -540,7 +540,7 @@ pub extern "C" fn oudrameng_resume_confidential_hart_execution(
         ≡ reply_valued (Resume (hardware_hart_id on)) value.old (tables head.now home.now hardware.old queues.old regions.now) effects.old }
 {
     if value.len() < REPLY_VALUE_WORDS {
-        return error::ROOM_TOO_SHORT;
+        return Error::RoomTooShort.number();
     }
     let given = confidential_flow::resume_confidential_hart_execution(
         HardwareHartId(on),

@@ -1,4 +1,5 @@
 -- What a broadcast answers, and what it leaves in the queues. Assumes nothing.
+use Rattle.std.proofs.Common.{Ok, Err}
 use mathlib.Core.Path.{◌≡◌, refl, sym, ap, ◌∙◌}
 use mathlib.Core.Bool.{Bool, true, false, ◌&&◌, ◌||◌, not, and-false, or-true, or-false, false≢true}
 use mathlib.Core.Logic.{inr, ⊎_elim, ◌≢◌}
@@ -28,9 +29,8 @@ use Rattle.confidential_hart.proofs.HartLaws.{formed_facts}
 use Rattle.hart_lifecycle_state.specs.Lifecycle.{started}
 use Rattle.hart_rows.specs.HartRows.{hart_at}
 use Rattle.monitor_requests.specs.declared.Request.TheVariants.{Send}
-use Rattle.monitor_requests.specs.declared.Answer.{Answer}
-use Rattle.monitor_requests.specs.declared.Answer.TheVariants.{Refused, Mask}
-use Rattle.monitor_requests.specs.Answers.{given}
+use Rattle.monitor_requests.specs.declared.Answer.TheVariants.{Mask}
+use Rattle.monitor_requests.specs.Answers.{Answered, given}
 use Rattle.monitor_requests.specs.Tables.{Tables, harts, home_hart, queue, max_hardware_harts, sound}
 use Rattle.monitor_requests.specs.Requests.{Outcome, answering, refused_on, sends, tests, with_queues, receives, interrupting, Delivery, delivery, deliver, broadcast, effect, performed}
 use Rattle.monitor_requests.proofs.AnswerLaws.{is_mask, first_in}
@@ -53,7 +53,7 @@ module _ (sender : ℕ) (c : ConfidentialHartRemoteCommand) (t : Tables) (effect
     send_known w = sym (no _ (not_no _ s) (no _ (not_no _ w) refl))
 
     -- the same, for an answer and queues that are the broadcast's
-    pub send_is : well_formed c ≡ true → (r : Answer) (queues : List ℕ) → delivery r queues ≡ broadcast sender c t
+    pub send_is : well_formed c ≡ true → (r : Answered) (queues : List ℕ) → delivery r queues ≡ broadcast sender c t
         → answering r (with_queues queues t) effects ≡ performed (Send sender c) t effects
     send_is w r queues e = ap (λ (d : Delivery). answering d.answer (with_queues d.queues t) effects) e ∙ sym (send_known w)
 
@@ -94,11 +94,11 @@ module _ (home : List ℕ) (sender : ℕ) (c : ConfidentialHartRemoteCommand) wh
 
   -- what holds at the end, and over each of the three ways of a turn, holds of every delivery
   pub by_turns : (P : ℕ → ℕ → ℕ → List ℕ → Delivery → Type 0)
-      → ((h mask : ℕ) (queues : List ℕ) → P zero h mask queues (delivery (Mask mask) queues))
+      → ((h mask : ℕ) (queues : List ℕ) → P zero h mask queues (delivery (Ok (Mask mask)) queues))
       → ((left h mask : ℕ) (queues : List ℕ) (d : Delivery) → receives home sender c h ≡ false → P left (h + 1) mask queues d
       → P (suc left) h mask queues d)
       → ((left h mask : ℕ) (queues : List ℕ) → receives home sender c h ≡ true → max_commands ≤ count (row queue_words queues h)
-      → P (suc left) h mask queues (delivery (Refused ReachedMaxNumberOfRemoteCommands) queues))
+      → P (suc left) h mask queues (delivery (Err ReachedMaxNumberOfRemoteCommands) queues))
       → ((left h mask : ℕ) (queues : List ℕ) (d : Delivery) → receives home sender c h ≡ true → count (row queue_words queues h) < max_commands
       → P left (h + 1) (interrupting (hart_at home h) mask) (taken queues h) d → P (suc left) h mask queues d)
       → (left h mask : ℕ) (queues : List ℕ) → P left h mask queues (deliver home sender c left h mask queues)
@@ -306,10 +306,10 @@ module _ (home : List ℕ) (sender : ℕ) (c : ConfidentialHartRemoteCommand) wh
   interrupted zero h mask = mask
   interrupted (suc left) h mask = interrupted left (h + 1) (pick (receives home sender c h) (interrupting (hart_at home h) mask) mask)
 
-  abbrev told : ℕ → ℕ → ℕ → Answer
-  told refuser end mask = pick (ltb refuser end) (Refused ReachedMaxNumberOfRemoteCommands) (Mask mask)
+  abbrev told : ℕ → ℕ → ℕ → Answered
+  told refuser end mask = pick (ltb refuser end) (Err ReachedMaxNumberOfRemoteCommands) (Ok (Mask mask))
 
-  told_same : {a : Answer} {r r' end end' mask mask' : ℕ} → a ≡ told r end mask → r ≡ r' → end ≡ end' → mask ≡ mask' → a ≡ told r' end' mask'
+  told_same : {a : Answered} {r r' end end' mask mask' : ℕ} → a ≡ told r end mask → r ≡ r' → end ≡ end' → mask ≡ mask' → a ≡ told r' end' mask'
   told_same e p q m = rw (← p, ← q, ← m) e
 
   interrupted_none : (h mask : ℕ) → mask ≡ interrupted zero h mask
@@ -330,7 +330,7 @@ module _ (home : List ℕ) (sender : ℕ) (c : ConfidentialHartRemoteCommand) wh
       → (deliver home sender c left h mask queues).answer ≡ told (refusing left h queues) (h + left) (interrupted left h mask)
   deliver_answer =
       by_turns (λ left h mask queues d. Fits left h queues → d.answer ≡ told (refusing left h queues) (h + left) (interrupted left h mask))
-      (λ h mask queues f. no _ (le-ltb (refusing zero h queues) (h + zero) (omega (arith, refusing_none h queues))) (ap Mask (interrupted_none h mask)))
+      (λ h mask queues f. no _ (le-ltb (refusing zero h queues) (h + zero) (omega (arith, refusing_none h queues))) (ap (λ m. Ok (Mask m)) (interrupted_none h mask)))
       (λ left h mask queues d r next f.
       told_same (next (omega arith)) (sym (refusing_later left h queues (passed_refuses queues h r))) (omega arith) (interrupted_passed left h mask r))
       (λ left h mask queues r l f.
@@ -397,12 +397,12 @@ module _ (home : List ℕ) (sender : ℕ) (c : ConfidentialHartRemoteCommand) wh
 
 -- ---- a broadcast over sound tables
 
-told_mask : (b : Bool) (e : Error) (m mask : ℕ) → pick b (Refused e) (Mask m) ≡ Mask mask → (b ≡ false) × (m ≡ mask)
+told_mask : (b : Bool) (e : Error) (m mask : ℕ) → pick b (Err e) (Ok (Mask m)) ≡ Ok (Mask mask) → (b ≡ false) × (m ≡ mask)
 unfolding pick
 told_mask true e m mask p = absurd (false≢true (ap is_mask p))
 told_mask false e m mask p = (refl, ap first_in p)
 
-told_refused : (b : Bool) (e f : Error) (m : ℕ) → pick b (Refused e) (Mask m) ≡ Refused f → (b ≡ true) × (Refused e ≡ Refused f)
+told_refused : (b : Bool) (e f : Error) (m : ℕ) → pick b (Err e) (Ok (Mask m)) ≡ Err f → (b ≡ true) × (◌≡◌ {A = Answered} (Err e) (Err f))
 unfolding pick
 told_refused true e f m p = (refl, p)
 told_refused false e f m p = absurd (false≢true (sym (ap is_mask p)))
@@ -482,10 +482,10 @@ module _ (sender : ℕ) (c : ConfidentialHartRemoteCommand) (t : Tables) where
 
     -- 8 exactly when there is one that refuses, else the mask
     pub answer_is : (broadcast sender c t).answer
-        ≡ pick (ltb refuser (harts t)) (Refused ReachedMaxNumberOfRemoteCommands) (Mask (interrupted t.home sender c (harts t) 0 0))
+        ≡ pick (ltb refuser (harts t)) (Err ReachedMaxNumberOfRemoteCommands) (Ok (Mask (interrupted t.home sender c (harts t) 0 0)))
     answer_is =
         deliver_answer t.home sender c (harts t) 0 0 t.queues room_for
-        ∙ ap (λ (n : ℕ). pick (ltb refuser n) (Refused ReachedMaxNumberOfRemoteCommands) (Mask (interrupted t.home sender c (harts t) 0 0)))
+        ∙ ap (λ (n : ℕ). pick (ltb refuser n) (Err ReachedMaxNumberOfRemoteCommands) (Ok (Mask (interrupted t.home sender c (harts t) 0 0))))
         (zero-add (harts t))
 
     -- there is one exactly when some hart that receives has 64 already
@@ -514,7 +514,7 @@ module _ (sender : ℕ) (c : ConfidentialHartRemoteCommand) (t : Tables) where
         absurd (false≢true (sym (none refuser g) ∙ refusing_does t.home sender c (harts t) 0 t.queues (omega arith)))))
 
     -- a mask: none refuses, so each that receives has the command offered, and its bits are those of the stolen ones
-    module _ (mask : ℕ) (e : (broadcast sender c t).answer ≡ Mask mask) where
+    module _ (mask : ℕ) (e : (broadcast sender c t).answer ≡ Ok (Mask mask)) where
       found : (ltb refuser (harts t) ≡ false) × (interrupted t.home sender c (harts t) 0 0 ≡ mask)
       found = told_mask (ltb refuser (harts t)) ReachedMaxNumberOfRemoteCommands (interrupted t.home sender c (harts t) 0 0) mask (sym answer_is ∙ e)
 
@@ -533,12 +533,12 @@ module _ (sender : ℕ) (c : ConfidentialHartRemoteCommand) (t : Tables) where
           (interrupted_small t.home sender c (harts t) 0 0 (λ j b d. dummy_number t s j (omega arith) d) (omega arith))
 
     -- a refusal is 8, by a hart that receives
-    module _ (f : Error) (e : (broadcast sender c t).answer ≡ Refused f) where
-      refused : (ltb refuser (harts t) ≡ true) × (Refused ReachedMaxNumberOfRemoteCommands ≡ Refused f)
+    module _ (f : Error) (e : (broadcast sender c t).answer ≡ Err f) where
+      refused : (ltb refuser (harts t) ≡ true) × (◌≡◌ {A = Answered} (Err ReachedMaxNumberOfRemoteCommands) (Err f))
       refused = told_refused (ltb refuser (harts t)) ReachedMaxNumberOfRemoteCommands f (interrupted t.home sender c (harts t) 0 0) (sym answer_is ∙ e)
 
       -- it is 8
-      pub refused_number : Refused f ≡ Refused ReachedMaxNumberOfRemoteCommands
+      pub refused_number : ◌≡◌ {A = Answered} (Err f) (Err ReachedMaxNumberOfRemoteCommands)
       refused_number = sym refused.1
 
       -- and the queues are as 8 leaves them
@@ -585,7 +585,7 @@ pub record Masked (sender : ℕ) (c : ConfidentialHartRemoteCommand) (t : Tables
 
 module _ (sender : ℕ) (c : ConfidentialHartRemoteCommand) (t : Tables) (effects : List ℕ) where
   -- an answer that is neither 12 nor 19 is the broadcast's, over sound tables and with a well-formed command
-  module _ (a : Answer) (p : (performed (Send sender c) t effects).answer ≡ a) (not-12 : Refused TablesNotSound ≢ a) (not-19 : Refused UnknownKind ≢ a) where
+  module _ (a : Answered) (p : (performed (Send sender c) t effects).answer ≡ a) (not-12 : Err TablesNotSound ≢ a) (not-19 : Err UnknownKind ≢ a) where
     went_sound : sound t ≡ true
     went_sound =
         by_test (sound t) (λ s. s)
@@ -605,15 +605,15 @@ module _ (sender : ℕ) (c : ConfidentialHartRemoteCommand) (t : Tables) (effect
     went_queues : (performed (Send sender c) t effects).after.queues ≡ (broadcast sender c t).queues
     went_queues = ap (λ (o : Outcome). o.after.queues) went
 
-  module _ (mask : ℕ) (p : (performed (Send sender c) t effects).answer ≡ Mask mask) where
-    no_mask : (e : Error) → Refused e ≢ Mask mask
+  module _ (mask : ℕ) (p : (performed (Send sender c) t effects).answer ≡ Ok (Mask mask)) where
+    no_mask : (e : Error) → Err e ≢ Ok (Mask mask)
     no_mask e q = false≢true (ap is_mask q)
 
     s : sound t ≡ true
-    s = went_sound (Mask mask) p (no_mask TablesNotSound) (no_mask UnknownKind)
+    s = went_sound (Ok (Mask mask)) p (no_mask TablesNotSound) (no_mask UnknownKind)
 
-    replied : (broadcast sender c t).answer ≡ Mask mask
-    replied = went_answer (Mask mask) p (no_mask TablesNotSound) (no_mask UnknownKind)
+    replied : (broadcast sender c t).answer ≡ Ok (Mask mask)
+    replied = went_answer (Ok (Mask mask)) p (no_mask TablesNotSound) (no_mask UnknownKind)
 
     all_below : (j : ℕ) → j < harts t → j < refuser sender c t
     all_below j l = rw (mask_none sender c t s mask replied) l
@@ -623,7 +623,7 @@ module _ (sender : ℕ) (c : ConfidentialHartRemoteCommand) (t : Tables) (effect
     send_mask =
         record {
           tables_sound = s;
-          command_formed = went_formed (Mask mask) p (no_mask TablesNotSound) (no_mask UnknownKind);
+          command_formed = went_formed (Ok (Mask mask)) p (no_mask TablesNotSound) (no_mask UnknownKind);
           room = λ j l r. below_room sender c t j (all_below j l) r;
           bits = mask_bits sender c t s mask replied;
           small = mask_small sender c t s mask replied;
@@ -633,21 +633,21 @@ module _ (sender : ℕ) (c : ConfidentialHartRemoteCommand) (t : Tables) (effect
     pub send_queues : (j : ℕ) → j < harts t
         → queue (performed (Send sender c) t effects).after j ≡ pick (receives t.home sender c j) (offered (queue t j) c).queue (queue t j)
     send_queues j l =
-        rw (went_queues (Mask mask) p (no_mask TablesNotSound) (no_mask UnknownKind))
+        rw (went_queues (Ok (Mask mask)) p (no_mask TablesNotSound) (no_mask UnknownKind))
         (by_test (receives t.home sender c j)
         (λ r. yes _ r (delivered_row sender c t s j (all_below j l) r))
         (λ r. no _ r (passed_row sender c t s j l r)))
 
   -- the request gives 8: the hart that refuses is the first that receives and has 64 already
-  pub send_eight : (performed (Send sender c) t effects).answer ≡ Refused ReachedMaxNumberOfRemoteCommands
+  pub send_eight : (performed (Send sender c) t effects).answer ≡ Err ReachedMaxNumberOfRemoteCommands
       → RefusedAt sender c t (performed (Send sender c) t effects).after.queues (refuser sender c t)
   send_eight p =
-      let eight : Answer = Refused ReachedMaxNumberOfRemoteCommands in
-      let not-12 : Refused TablesNotSound ≢ eight = λ q.
-      let z : ◌≡◌ {A = ℕ} 12 8 = ap (λ (a : Answer). (given a).number) q in
+      let eight : Answered = Err ReachedMaxNumberOfRemoteCommands in
+      let not-12 : Err TablesNotSound ≢ eight = λ q.
+      let z : ◌≡◌ {A = ℕ} 12 8 = ap (λ (a : Answered). (given a).number) q in
       omega arith in
-      let not-19 : Refused UnknownKind ≢ eight = λ q.
-      let z : ◌≡◌ {A = ℕ} 19 8 = ap (λ (a : Answer). (given a).number) q in
+      let not-19 : Err UnknownKind ≢ eight = λ q.
+      let z : ◌≡◌ {A = ℕ} 19 8 = ap (λ (a : Answered). (given a).number) q in
       omega arith in
       rw (went_queues eight p not-12 not-19)
       (refused_at sender c t (went_sound eight p not-12 not-19) ReachedMaxNumberOfRemoteCommands (went_answer eight p not-12 not-19))
@@ -660,7 +660,7 @@ module _ (sender : ℕ) (c : ConfidentialHartRemoteCommand) (t : Tables) (effect
 
   -- a mask where every hart that receives has room
   pub send_accepted : ((j : ℕ) → j < harts t → receives t.home sender c j ≡ true → count (queue t j) < max_commands)
-      → (performed (Send sender c) t effects).answer ≡ Mask (interrupted t.home sender c (harts t) 0 0)
+      → (performed (Send sender c) t effects).answer ≡ Ok (Mask (interrupted t.home sender c (harts t) 0 0))
   send_accepted room =
       let none = none_of (refuses_at t.home sender c t.queues) (harts t) (λ j l.
       by_test (receives t.home sender c j)
@@ -670,7 +670,7 @@ module _ (sender : ℕ) (c : ConfidentialHartRemoteCommand) (t : Tables) (effect
 
   -- 8 where some hart that receives has 64 already
   pub send_full : (h : ℕ) → h < harts t → receives t.home sender c h ≡ true → max_commands ≤ count (queue t h)
-      → (performed (Send sender c) t effects).answer ≡ Refused ReachedMaxNumberOfRemoteCommands
+      → (performed (Send sender c) t effects).answer ≡ Err ReachedMaxNumberOfRemoteCommands
   send_full h l r full =
       let one = exists_of (refuses_at t.home sender c t.queues) h (harts t) l (full_refuses t.home sender c t.queues h r full) in
       answer_of ∙ answer_is sender c t s ∙ sym (yes _ (sym (refuses_exactly sender c t s) ∙ one) refl)

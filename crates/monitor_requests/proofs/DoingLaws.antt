@@ -1,4 +1,5 @@
 -- What doing commands, emptying a queue and going on leave of sound tables. Assumes nothing.
+use Rattle.std.proofs.Common.{Ok}
 use Prim.Native.Nat.{ℕ, ◌+◌, ◌*◌, ◌≤◌, ◌<◌}
 use mathlib.Core.Path.{◌≡◌, refl, sym, ap, ◌∙◌}
 use mathlib.Core.Bool.{true, false}
@@ -19,9 +20,8 @@ use Rattle.effects.specs.Effects.{shuts_down}
 use Rattle.hart_lifecycle_state.specs.Lifecycle.{powered_off, off}
 use Rattle.error.specs.Error.{hardware_hart_idle}
 use Rattle.confidential_hart.specs.declared.ConfidentialHart.{ConfidentialHart}
-use Rattle.confidential_hart.specs.declared.Transition.{Transition}
 use Rattle.confidential_hart.specs.Hart.{register_count, is_dummy, with_operation, no_operation}
-use Rattle.confidential_hart.specs.Transition.{moved, after_off}
+use Rattle.confidential_hart.specs.Transition.{Transition, moved, after_off}
 use Rattle.confidential_hart.proofs.TransitionLaws.{moves_is, transition_length}
 use Rattle.hart_rows.specs.HartRows.{hart_words, hart_at, to_words}
 use Rattle.hart_rows.proofs.HartRowLaws.{to_length, load_store}
@@ -38,28 +38,28 @@ module _ (hardware : List ℕ) (k : ℕ) where
   hart = hart_at hardware k
 
   -- a hart that is PoweredOff answers off, and keeps its operation
-  pub goes_off : eqb hart.lifecycle powered_off ≡ true → goes_on hardware k ≡ going PoweredOff hardware
+  pub goes_off : eqb hart.lifecycle powered_off ≡ true → goes_on hardware k ≡ going (Ok PoweredOff) hardware
   unfolding goes_on
   goes_off e = sym (yes _ e refl)
 
   -- else an operation is answered, and taken
   pub goes_operation : eqb hart.lifecycle powered_off ≡ false → eqb hart.operation no_operation ≡ false
       → goes_on hardware k
-      ≡ going (Operation hart.operation hart.x hart.y) (put hart_words hardware k (to_words (with_operation no_operation 0 0 hart)))
+      ≡ going (Ok (Operation hart.operation hart.x hart.y)) (put hart_words hardware k (to_words (with_operation no_operation 0 0 hart)))
   unfolding goes_on
   goes_operation e d = sym (no _ e (yes _ (not_yes _ d) refl))
 
   -- and else it runs
-  pub goes_run : eqb hart.lifecycle powered_off ≡ false → eqb hart.operation no_operation ≡ true → goes_on hardware k ≡ going Run hardware
+  pub goes_run : eqb hart.lifecycle powered_off ≡ false → eqb hart.operation no_operation ≡ true → goes_on hardware k ≡ going (Ok Run) hardware
   unfolding goes_on
   goes_run e d = sym (no _ e (no _ (not_no _ d) refl))
 
   -- what holds of each case holds of going on
   pub by_going : (P : Going → Type 0)
-      → (eqb hart.lifecycle powered_off ≡ true → P (going PoweredOff hardware))
+      → (eqb hart.lifecycle powered_off ≡ true → P (going (Ok PoweredOff) hardware))
       → (eqb hart.lifecycle powered_off ≡ false → eqb hart.operation no_operation ≡ false
-      → P (going (Operation hart.operation hart.x hart.y) (put hart_words hardware k (to_words (with_operation no_operation 0 0 hart)))))
-      → (eqb hart.lifecycle powered_off ≡ false → eqb hart.operation no_operation ≡ true → P (going Run hardware))
+      → P (going (Ok (Operation hart.operation hart.x hart.y)) (put hart_words hardware k (to_words (with_operation no_operation 0 0 hart)))))
+      → (eqb hart.lifecycle powered_off ≡ false → eqb hart.operation no_operation ≡ true → P (going (Ok Run) hardware))
       → P (goes_on hardware k)
   by_going P is-off waits runs =
       by_test (eqb hart.lifecycle powered_off) (λ e. rw (goes_off e) (is-off e))

@@ -1,4 +1,5 @@
 -- The examples P8 and P9 of document 01, about the request. Assumes nothing.
+use Rattle.std.proofs.Common.{Ok, Err}
 use mathlib.Core.Path.{◌≡◌, refl, sym, ap, ◌∙◌}
 use mathlib.Core.Bool.{true, false, and-false}
 use mathlib.Core.Logic.{◌≢◌}
@@ -20,9 +21,8 @@ use Rattle.remote_commands.specs.Queue.{queue_words, max_commands, count, comman
 use Rattle.remote_commands.proofs.OfferLaws.{offer_duplicate, offer_new, push_count, push_commands}
 use Rattle.hart_lifecycle_state.specs.Lifecycle.{started}
 use Rattle.monitor_requests.specs.declared.Request.TheVariants.{Send}
-use Rattle.monitor_requests.specs.declared.Answer.{Answer}
-use Rattle.monitor_requests.specs.declared.Answer.TheVariants.{Refused, Mask}
-use Rattle.monitor_requests.specs.Answers.{given}
+use Rattle.monitor_requests.specs.declared.Answer.TheVariants.{Mask}
+use Rattle.monitor_requests.specs.Answers.{Answered, given}
 use Rattle.monitor_requests.specs.Tables.{Tables, harts, home_hart, queue, sound}
 use Rattle.monitor_requests.specs.Requests.{receives, performed}
 use Rattle.monitor_requests.proofs.SoundLaws.{sound_sized}
@@ -61,7 +61,7 @@ module _ (sender : ℕ) (c : ConfidentialHartRemoteCommand) (t : Tables) (h : �
     room : count (queue t h) < max_commands
     room = omega arith
 
-    masked : (performed (Send sender c) t []).answer ≡ Mask (interrupted t.home sender c (harts t) 0 0)
+    masked : (performed (Send sender c) t []).answer ≡ Ok (Mask (interrupted t.home sender c (harts t) 0 0))
     masked =
         send_accepted sender c t [] p.tables_sound p.command_formed (λ j l r.
         by_test (eqb j h) (λ e. rw (eqb-true j h e) room) (λ e. others j l (eqb-false j h e) r))
@@ -71,7 +71,7 @@ module _ (sender : ℕ) (c : ConfidentialHartRemoteCommand) (t : Tables) (h : �
 
     -- the broadcast is done
     pub p8_done : (given (performed (Send sender c) t []).answer).number ≡ done
-    p8_done = ap (λ (a : Answer). (given a).number) masked
+    p8_done = ap (λ (a : Answered). (given a).number) masked
 
     takes : queued (queue t h) c ≡ false → queue after h ≡ pushed (queue t h) c
     takes q = offers ∙ ap (λ (o : Offer). o.queue) (offer_new (queue t h) c room q)
@@ -92,7 +92,7 @@ module _ (sender : ℕ) (c : ConfidentialHartRemoteCommand) (t : Tables) (h : �
   -- 64 wait: 8, and the queue stays, whether or not the command waits there, and whatever the other queues hold
   module _ (full : count (queue t h) ≡ max_commands) where
     -- it is 8
-    pub p8_full : (performed (Send sender c) t []).answer ≡ Refused ReachedMaxNumberOfRemoteCommands
+    pub p8_full : (performed (Send sender c) t []).answer ≡ Err ReachedMaxNumberOfRemoteCommands
     p8_full = send_full sender c t [] p.tables_sound p.command_formed h p.there p.receiving (omega arith)
 
     -- the queue is as it was
@@ -159,7 +159,7 @@ module _ (t : Tables) (p : P9 t) where
       (and_both p9_two (le-leb max_commands (count (queue t 2)) (omega (arith, p.full_2)))) p9_below
 
   -- it is 8
-  pub p9_answer : (performed (Send 0 p9_command) t []).answer ≡ Refused ReachedMaxNumberOfRemoteCommands
+  pub p9_answer : (performed (Send 0 p9_command) t []).answer ≡ Err ReachedMaxNumberOfRemoteCommands
   p9_answer = send_full 0 p9_command t [] p.tables_sound p9_formed 2 (omega (arith, p.four)) p9_two (omega (arith, p.full_2))
 
   abbrev p9_queue : ℕ → List ℕ

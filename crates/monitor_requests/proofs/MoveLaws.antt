@@ -11,6 +11,8 @@ use borrow.Author.Tests.{eqb-true, eqb-false, leb-true, leb-false, not-true, not
 use Rattle.table_rows.specs.Rows.{row, put}
 use Rattle.table_rows.proofs.PickLaws.{by_test, and_left, and_right}
 use Rattle.table_rows.proofs.RowLaws.{within, row_length, put_length, row_put_same, row_put_other}
+use Rattle.hart_lifecycle_state.specs.declared.LifecycleChange.{LifecycleChange}
+use Rattle.hart_lifecycle_state.specs.declared.LifecycleChange.TheVariants as changes
 use Rattle.hart_lifecycle_state.specs.Lifecycle.{change_of}
 use Rattle.hart_lifecycle_state.proofs.LifecycleLaws.{told}
 use Rattle.confidential_hart.specs.declared.ConfidentialHart.{ConfidentialHart}
@@ -341,7 +343,7 @@ unfolding hart_at
 six_registers rows i = refl
 
 -- a transition keeps the record's VM and its number, and the record stays well formed
-module _ (t : Tables) (s : sound t ≡ true) (c idle : ℕ) (g : List ℕ) (i : ℕ) where
+module _ (t : Tables) (s : sound t ≡ true) (c : LifecycleChange) (idle : ℕ) (g : List ℕ) (i : ℕ) where
   changed_alike : (h : ConfidentialHart) → Alike h (transition (change_of c) idle g h).hart
   changed_alike h =
       let kept = transition_keeps (change_of c) idle h g in
@@ -370,7 +372,7 @@ module _ (t : Tables) (s : sound t ≡ true) (c idle : ℕ) (g : List ℕ) (i : 
 module _ (t : Tables) (s : sound t ≡ true) (k : ℕ) (l : k < hardware_harts t) where
   -- a held hart that is powered off
   pub off_held_sound : sound (with_held k (after_off (hardware_hart t k)).hart t) ≡ true
-  off_held_sound = held_changed_sound t s 4 _ _ k l refl
+  off_held_sound = held_changed_sound t s changes.Off _ _ k l refl
 
   -- a held hart with an operation there is, or with none and two zeros
   pub operation_held_sound : is_dummy (hardware_hart t k) ≡ false → (operation x y : ℕ) → operation ≤ last_operation → (operation ≡ no_operation → x ≡ 0)
@@ -408,25 +410,25 @@ pub start_sound : (hart : ConfidentialHartId) (address opaque : ℕ) (t : Tables
 unfolding tests effect
 start_sound hart address opaque t effects s =
     effect_sound (Start hart address opaque) t effects s (λ p.
-    home_changed_sound t s 0 _ _ hart.0 (leb-false _ _ p.1.0)
+    home_changed_sound t s changes.Start _ _ hart.0 (leb-false _ _ p.1.0)
     (start_length (home_hart t hart.0).id address opaque (home_hart t hart.0).registers))
 
 -- so does a suspend
 pub suspend_sound : (on : HardwareHartId) (t : Tables) (effects : List ℕ) → sound t ≡ true → sound (performed (Suspend on) t effects).after ≡ true
 unfolding tests effect
-suspend_sound on t effects s = effect_sound (Suspend on) t effects s (λ p. held_changed_sound t s 1 _ _ on.0 (leb-false _ _ p.1.0) refl)
+suspend_sound on t effects s = effect_sound (Suspend on) t effects s (λ p. held_changed_sound t s changes.Suspend _ _ on.0 (leb-false _ _ p.1.0) refl)
 
 -- a stop
 pub stop_sound : (on : HardwareHartId) (t : Tables) (effects : List ℕ) → sound t ≡ true → sound (performed (Stop on) t effects).after ≡ true
 unfolding tests effect
-stop_sound on t effects s = effect_sound (Stop on) t effects s (λ p. held_changed_sound t s 2 _ _ on.0 (leb-false _ _ p.1.0) refl)
+stop_sound on t effects s = effect_sound (Stop on) t effects s (λ p. held_changed_sound t s changes.Stop _ _ on.0 (leb-false _ _ p.1.0) refl)
 
 -- a wake
 pub wake_sound : (on : HardwareHartId) (address opaque : ℕ) (t : Tables) (effects : List ℕ) → sound t ≡ true → sound (performed (Wake on address opaque) t effects).after ≡ true
 unfolding tests effect
 wake_sound on address opaque t effects s =
     effect_sound (Wake on address opaque) t effects s (λ p.
-    held_changed_sound t s 3 _ _ on.0 (leb-false _ _ p.1.0) (wake_length address opaque (hardware_hart t on.0).registers))
+    held_changed_sound t s changes.Wake _ _ on.0 (leb-false _ _ p.1.0) (wake_length address opaque (hardware_hart t on.0).registers))
 
 -- an off
 pub off_sound : (on : HardwareHartId) (t : Tables) (effects : List ℕ) → sound t ≡ true → sound (performed (Off on) t effects).after ≡ true

@@ -1,5 +1,6 @@
 -- Laws over all requests: sound tables stay sound, a refusal changes nothing but by 8, tables keep their lengths, and when 12 is given.
 -- Assumes nothing.
+use Rattle.std.proofs.Common.{Ok, Err, None}
 use Prim.Native.Nat.{ℕ, ◌<◌, ◌≤◌}
 use mathlib.Core.Path.{◌≡◌, refl, sym, ap, ◌∙◌}
 use mathlib.Core.Logic.{◌≢◌, ◌↔◌}
@@ -48,10 +49,8 @@ use Rattle.monitor_requests.specs.declared.Request.TheVariants.{
   Resume,
 }
 use Rattle.monitor_requests.specs.declared.Setup.{Setup}
-use Rattle.monitor_requests.specs.declared.Answer.{Answer}
-use Rattle.monitor_requests.specs.declared.Answer.TheVariants.{Refused, Done}
-use Rattle.monitor_requests.specs.declared.Word.TheVariants.{NoWord}
-use Rattle.monitor_requests.specs.Answers.{gives, given}
+use Rattle.monitor_requests.specs.declared.Answer.TheVariants.{Done}
+use Rattle.monitor_requests.specs.Answers.{Answered, gives, given}
 use Rattle.monitor_requests.specs.Tables.{
   Tables,
   allowed_word,
@@ -132,8 +131,8 @@ performed_sound (Resume on) t effects f =
 -- ---- refusals
 
 -- what an effect may answer: it refuses by 8 alone
-abbrev Effects : Answer → Type 0
-Effects a = (e : Error) → a ≡ Refused e → e ≡ ReachedMaxNumberOfRemoteCommands
+abbrev Effects : Answered → Type 0
+Effects a = (e : Error) → a ≡ Err e → e ≡ ReachedMaxNumberOfRemoteCommands
 
 broadcast_answers : (sender : ℕ) (c : ConfidentialHartRemoteCommand) (t : Tables) → Effects (broadcast sender c t).answer
 broadcast_answers sender c t =
@@ -171,19 +170,19 @@ effect_answers (Resume on) t effects =
     (λ _ _ e q. cc)
 
 -- an effect refuses by 8 alone
-pub effect_refusal : (r : Request) (t : Tables) (effects : List ℕ) (e : Error) → (effect r t effects).answer ≡ Refused e → e ≡ ReachedMaxNumberOfRemoteCommands
+pub effect_refusal : (r : Request) (t : Tables) (effects : List ℕ) (e : Error) → (effect r t effects).answer ≡ Err e → e ≡ ReachedMaxNumberOfRemoteCommands
 effect_refusal r t effects e p = effect_answers r t effects e p
 
-module _ (r : Request) (t : Tables) (effects : List ℕ) (e : Error) (p : (performed r t effects).answer ≡ Refused e) where
+module _ (r : Request) (t : Tables) (effects : List ℕ) (e : Error) (p : (performed r t effects).answer ≡ Err e) where
   -- a refusal other than 8 changes no word of tables and effects
   pub refusal_alone : e ≢ ReachedMaxNumberOfRemoteCommands → performed r t effects ≡ refused_on t effects e
   refusal_alone other =
-      by_performed r t effects (λ (o : Outcome). o.answer ≡ Refused e → o ≡ refused_on t effects e) (λ _ q. ap (λ (a : Answer). answering a t effects) q)
+      by_performed r t effects (λ (o : Outcome). o.answer ≡ Err e → o ≡ refused_on t effects e) (λ _ q. ap (λ (a : Answered). answering a t effects) q)
       (λ _ q. absurd (other (effect_refusal r t effects e q)))
       p
 
   -- no word and no data follow the number
-  pub refused_values : given (performed r t effects).answer ≡ gives (number_of e) NoWord []
+  pub refused_values : given (performed r t effects).answer ≡ gives (number_of e) None []
   refused_values = ap given p
 
 -- equal inputs allow one outcome: of one request on the same tables two that meet the promise are equal
@@ -191,7 +190,7 @@ pub one_outcome : (r : Request) (t : Tables) (effects : List ℕ) (o o' : Outcom
 one_outcome r t effects o o' p q = p ∙ sym q
 
 -- what a promise says of the answer: its number and values are those of the request
-pub promised_given : (q : Request) (t : Tables) {t' : Tables} {r : Answer} → answering r t' [] ≡ performed q t [] → given r ≡ given (performed q t []).answer
+pub promised_given : (q : Request) (t : Tables) {t' : Tables} {r : Answered} → answering r t' [] ≡ performed q t [] → given r ≡ given (performed q t []).answer
 promised_given q t p = ap (λ (o : Outcome). given o.answer) p
 
 -- ---- which errors tests give
@@ -228,7 +227,7 @@ tests_known (Process on) t effects = refl
 tests_known (Resume on) t effects = refl
 
 -- an answer that refuses by such an error is no refusal by another
-pub other_error : {e d : Error} → of_test e ≡ true → of_test d ≡ false → Refused e ≢ Refused d
+pub other_error : {e d : Error} → of_test e ≡ true → of_test d ≡ false → ◌≢◌ {A = Answered} (Err e) (Err d)
 other_error {e} {d} given never p = let q : e ≡ d = cc in false≢true (sym never ∙ ap of_test (sym q) ∙ given)
 
 -- what holds of 12 on tables that are not sound, of each refusal by a test, and of the effect where the tests are passed, holds of the outcome
@@ -245,15 +244,15 @@ by_outcome r t effects P unsound-so refused passed =
 -- ---- 12
 
 module _ (r : Request) (t : Tables) (effects : List ℕ) where
-  sound_otherwise : sound t ≡ true → (performed r t effects).answer ≢ Refused TablesNotSound
+  sound_otherwise : sound t ≡ true → (performed r t effects).answer ≢ Err TablesNotSound
   sound_otherwise s =
-      by_outcome r t effects (λ (o : Outcome). o.answer ≢ Refused TablesNotSound) (λ f _. false≢true (sym f ∙ s)) (λ e k. other_error k refl)
+      by_outcome r t effects (λ (o : Outcome). o.answer ≢ Err TablesNotSound) (λ f _. false≢true (sym f ∙ s)) (λ e k. other_error k refl)
       (λ _ p.
       let z : ◌≡◌ {A = ℕ} 12 8 = ap number_of (effect_refusal r t effects TablesNotSound p) in
       absurd (omega arith))
 
   -- every request gives 12 exactly when the tables are not sound
-  pub twelve_exactly : ((performed r t effects).answer ≡ Refused TablesNotSound) ↔ (sound t ≡ false)
+  pub twelve_exactly : ((performed r t effects).answer ≡ Err TablesNotSound) ↔ (sound t ≡ false)
   twelve_exactly = (
     λ p. by_test (sound t) (λ s. absurd (sound_otherwise s p)) (λ s. s),
     λ s. ap (λ (o : Outcome). o.answer) (unsound_refused r t effects s),
@@ -496,34 +495,34 @@ fresh_lengths s t a =
 
 module _ (s : Setup) (t : Tables) where
   -- what holds of each refusal but by 12, and of the fresh tables once it is accepted, holds of a setup
-  pub by_set_up : (P : Outcome → Type 0) → ((e : Error) → of_test e ≡ true → P (refused_on t [] e)) → (Accepted s t → P (answering Done (fresh s t) []))
+  pub by_set_up : (P : Outcome → Type 0) → ((e : Error) → of_test e ≡ true → P (refused_on t [] e)) → (Accepted s t → P (answering (Ok Done) (fresh s t) []))
       → P (set_up s t)
   unfolding set_up setup_tests all_of
   by_set_up P refusal done =
-      by_errors (refused_on t []) (answering Done (fresh s t) []) P of_test refusal (setup_tests s t) refl
-      (λ p. done (accepted s t (ap (λ (o : Outcome). o.answer) (judged_passed (refused_on t []) (answering Done (fresh s t) []) (setup_tests s t) p))))
+      by_errors (refused_on t []) (answering (Ok Done) (fresh s t) []) P of_test refusal (setup_tests s t) refl
+      (λ p. done (accepted s t (ap (λ (o : Outcome). o.answer) (judged_passed (refused_on t []) (answering (Ok Done) (fresh s t) []) (setup_tests s t) p))))
 
   -- it leaves sound tables sound
   pub set_up_sound : sound t ≡ true → sound (set_up s t).after ≡ true
   set_up_sound f = by_set_up (λ (o : Outcome). sound o.after ≡ true) (λ _ _. f) (λ a. fresh_sound s t a)
 
   -- it never gives 12
-  pub twelve_never_for_setup : (set_up s t).answer ≢ Refused TablesNotSound
+  pub twelve_never_for_setup : (set_up s t).answer ≢ Err TablesNotSound
   twelve_never_for_setup =
-      by_set_up (λ (o : Outcome). o.answer ≢ Refused TablesNotSound)
+      by_set_up (λ (o : Outcome). o.answer ≢ Err TablesNotSound)
       (λ e k. other_error k refl)
       (λ _ p. absurd (false≢true (ap is_refused p)))
 
   -- a refusal changes nothing
-  pub setup_refusal_alone : (e : Error) → (set_up s t).answer ≡ Refused e → set_up s t ≡ refused_on t [] e
+  pub setup_refusal_alone : (e : Error) → (set_up s t).answer ≡ Err e → set_up s t ≡ refused_on t [] e
   setup_refusal_alone e =
-      by_set_up (λ (o : Outcome). o.answer ≡ Refused e → o ≡ refused_on t [] e) (λ _ _ q. ap (λ (a : Answer). answering a t []) q)
+      by_set_up (λ (o : Outcome). o.answer ≡ Err e → o ≡ refused_on t [] e) (λ _ _ q. ap (λ (a : Answered). answering a t []) q)
       (λ _ q. absurd (false≢true (ap is_refused q)))
 
   -- one that is done leaves the fresh tables
-  pub setup_done_fresh : (set_up s t).answer ≡ Done → set_up s t ≡ answering Done (fresh s t) []
+  pub setup_done_fresh : (set_up s t).answer ≡ Ok Done → set_up s t ≡ answering (Ok Done) (fresh s t) []
   setup_done_fresh =
-      by_set_up (λ (o : Outcome). o.answer ≡ Done → o ≡ answering Done (fresh s t) []) (λ _ _ q. absurd (false≢true (sym (ap is_refused q)))) (λ _ _. refl)
+      by_set_up (λ (o : Outcome). o.answer ≡ Ok Done → o ≡ answering (Ok Done) (fresh s t) []) (λ _ _ q. absurd (false≢true (sym (ap is_refused q)))) (λ _ _. refl)
 
   -- it keeps the lengths of any tables
   pub setup_lengths : SameLengths t (set_up s t).after

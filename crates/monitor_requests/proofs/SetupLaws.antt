@@ -1,4 +1,5 @@
 -- An accepted setup leaves sound tables, whatever stood there, and what they hold then. Assumes nothing.
+use Rattle.std.proofs.Common.{Ok, Err}
 use Prim.Native.Nat.{ℕ, zero, suc, ◌*◌, ◌<◌}
 use mathlib.Core.Path.{◌≡◌, refl, sym, ap, ◌∙◌}
 use mathlib.Core.Bool.{Bool, true, not, ◌&&◌}
@@ -26,7 +27,7 @@ use Rattle.mmio_regions.specs.Regions.{max_regions}
 use Rattle.mmio_regions.specs.Table.{region_words, standing, regions_sound}
 use Rattle.mmio_regions.proofs.SoundLaws as regions
 use Rattle.monitor_requests.specs.declared.Setup.{Setup}
-use Rattle.monitor_requests.specs.declared.Answer.TheVariants.{Refused, Done}
+use Rattle.monitor_requests.specs.declared.Answer.TheVariants.{Done}
 use Rattle.monitor_requests.specs.Tables.{
   Tables,
   harts,
@@ -55,7 +56,7 @@ use Rattle.monitor_requests.proofs.SoundLaws.{
 -- ---- a setup that is accepted
 
 -- a refusal is not done
-not_done : (e : Error) → Refused e ≡ Done → ⊥
+not_done : (e : Error) → Err e ≡ Ok Done → ⊥
 not_done e p = let z : ◌≡◌ {A = ℕ} 0 1 = cc in omega arith
 
 -- what an accepted setup tells: counts in range, a boot hart that is there, tables long enough, and the outcome
@@ -63,7 +64,7 @@ pub record Accepted (s : Setup) (t : Tables) : Type 0 where
   pub ranged : counts_in_range s.harts s.hardware ≡ true
   pub boots : s.boot < s.harts
   pub long : Long t s.harts s.hardware
-  pub done : set_up s t ≡ answering Done (fresh s t) []
+  pub done : set_up s t ≡ answering (Ok Done) (fresh s t) []
 
 module _ (s : Setup) (t : Tables) where
   abbrev range : Bool
@@ -76,7 +77,7 @@ module _ (s : Setup) (t : Tables) where
   roomy = long_enough t s.harts s.hardware
 
   -- a setup that answers done is accepted
-  pub accepted : (set_up s t).answer ≡ Done → Accepted s t
+  pub accepted : (set_up s t).answer ≡ Ok Done → Accepted s t
   unfolding set_up setup_tests
   accepted e =
       by_test (not (range && below))
@@ -245,7 +246,7 @@ module _ (s : Setup) (t : Tables) (a : Accepted s t) where
 
 -- ---- an accepted setup
 
-module _ (s : Setup) (t : Tables) (e : (set_up s t).answer ≡ Done) where
+module _ (s : Setup) (t : Tables) (e : (set_up s t).answer ≡ Ok Done) where
   -- the tables are those at setup
   pub setup_done : (set_up s t).after ≡ fresh s t
   setup_done = ap (λ (o : Outcome). o.after) (accepted s t e).done

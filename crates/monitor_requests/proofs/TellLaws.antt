@@ -1,4 +1,5 @@
 -- What an answer of a request that does commands tells: no count, mask, effect or operation can be made up. Assumes nothing.
+use Rattle.std.proofs.Common.{Ok, Err}
 use Prim.Native.Nat.{ℕ, ◌+◌, ◌*◌, ◌≤◌, ◌<◌}
 use mathlib.Core.Path.{◌≡◌, refl, sym, ap, ◌∙◌, subst}
 use mathlib.Core.Logic.{◌≢◌}
@@ -27,10 +28,9 @@ use Rattle.confidential_hart.specs.Hart.{no_operation, with_operation}
 use Rattle.confidential_hart.specs.Transition.{moved}
 use Rattle.hart_rows.specs.HartRows.{hart_words, hart_at}
 use Rattle.hart_rows.proofs.HartRowLaws.{load_store}
-use Rattle.monitor_requests.specs.declared.Answer.{Answer}
-use Rattle.monitor_requests.specs.declared.Answer.TheVariants.{Refused, Mask, Count, Run, PoweredOff, Operation}
+use Rattle.monitor_requests.specs.declared.Answer.TheVariants.{Mask, Count, Run, PoweredOff, Operation}
 use Rattle.monitor_requests.specs.Tables.{Tables, harts, hardware_hart, queue}
-use Rattle.monitor_requests.specs.Answers.{given}
+use Rattle.monitor_requests.specs.Answers.{Answered, given}
 use Rattle.monitor_requests.proofs.AnswerLaws.{is_refused, is_mask, is_count, first_in}
 use Rattle.monitor_requests.proofs.JudgedLaws.{Passed, by_errors, by_performed, judged_map}
 use Rattle.monitor_requests.proofs.SoundLaws.{sound_sized}
@@ -95,11 +95,11 @@ abbrev not_eight : Error → Bool
 not_eight e = not (eqb (number_of e) reached_max_number_of_remote_commands)
 
 -- a count that process gives
-pub process_count : (on : HardwareHartId) (t : Tables) (effects : List ℕ) (n : ℕ) → (performed (Process on) t effects).answer ≡ Count n
+pub process_count : (on : HardwareHartId) (t : Tables) (effects : List ℕ) (n : ℕ) → (performed (Process on) t effects).answer ≡ Ok (Count n)
     → Processed on.0 t (performed (Process on) t effects) n
 unfolding effect
 process_count on t effects n =
-    by_performed (Process on) t effects (λ (o : Outcome). o.answer ≡ Count n → Processed on.0 t o n)
+    by_performed (Process on) t effects (λ (o : Outcome). o.answer ≡ Ok (Count n) → Processed on.0 t o n)
     (λ _ q. absurd (false≢true (ap is_count q)))
     (λ p q.
     let x = process_held on t effects p in
@@ -139,11 +139,11 @@ module _ (on : HardwareHartId) (c : ConfidentialHartRemoteCommand) (t : Tables) 
       }
 
   -- a mask that a broadcast gives: bit k is 1 exactly when the home row of some hart that receives holds dummy k
-  pub broadcast_mask : (mask : ℕ) → (performed (Broadcast on c) t effects).answer ≡ Mask mask
+  pub broadcast_mask : (mask : ℕ) → (performed (Broadcast on c) t effects).answer ≡ Ok (Mask mask)
       → Masked h c t mask × OwnDone c on.0 t effects (performed (Broadcast on c) t effects)
   broadcast_mask mask =
       by_broadcast on c t effects
-      (λ (o : Outcome). o.answer ≡ Mask mask → Masked h c t mask × OwnDone c on.0 t effects o)
+      (λ (o : Outcome). o.answer ≡ Ok (Mask mask) → Masked h c t mask × OwnDone c on.0 t effects o)
       (λ _ q. absurd (false≢true (ap is_mask q)))
       (λ o w p q.
       let m = send_mask h c own [] mask (sym w.answer_own ∙ q) in (
@@ -158,25 +158,25 @@ module _ (on : HardwareHartId) (c : ConfidentialHartRemoteCommand) (t : Tables) 
       ))
 
   -- and then each hart that receives has the command offered, and the queue of every other is as it was
-  pub broadcast_queues : (mask : ℕ) → (performed (Broadcast on c) t effects).answer ≡ Mask mask → (j : ℕ) → j < harts t
+  pub broadcast_queues : (mask : ℕ) → (performed (Broadcast on c) t effects).answer ≡ Ok (Mask mask) → (j : ℕ) → j < harts t
       → queue (performed (Broadcast on c) t effects).after j ≡ pick (receives t.home h c j) (offered (queue t j) c).queue (queue t j)
   broadcast_queues mask e j l =
       by_broadcast on c t effects
-      (λ (o : Outcome). o.answer ≡ Mask mask → queue o.after j ≡ pick (receives t.home h c j) (offered (queue t j) c).queue (queue t j))
+      (λ (o : Outcome). o.answer ≡ Ok (Mask mask) → queue o.after j ≡ pick (receives t.home h c j) (offered (queue t j) c).queue (queue t j))
       (λ _ q. absurd (false≢true (ap is_mask q)))
       (λ o w p q. rw w.after_own (send_queues h c own [] mask (sym w.answer_own ∙ q) j l))
       e
 
   -- 8: the first receiver that has 64 refuses, and what the sender did itself stands
-  pub broadcast_eight : (performed (Broadcast on c) t effects).answer ≡ Refused ReachedMaxNumberOfRemoteCommands
+  pub broadcast_eight : (performed (Broadcast on c) t effects).answer ≡ Err ReachedMaxNumberOfRemoteCommands
       → RefusedAt h c t (performed (Broadcast on c) t effects).after.queues (refuser h c t)
       × OwnDone c on.0 t effects (performed (Broadcast on c) t effects)
   unfolding performed tests effect all_of
   broadcast_eight =
       by_errors (refused_on t effects) (effect (Broadcast on c) t effects)
-      (λ (o : Outcome). o.answer ≡ Refused ReachedMaxNumberOfRemoteCommands → RefusedAt h c t o.after.queues (refuser h c t) × OwnDone c on.0 t effects o)
+      (λ (o : Outcome). o.answer ≡ Err ReachedMaxNumberOfRemoteCommands → RefusedAt h c t o.after.queues (refuser h c t) × OwnDone c on.0 t effects o)
       not_eight
-      (λ e other q. absurd (false≢true (sym (ap (λ (a : Answer). not (eqb (given a).number reached_max_number_of_remote_commands)) q) ∙ other)))
+      (λ e other q. absurd (false≢true (sym (ap (λ (a : Answered). not (eqb (given a).number reached_max_number_of_remote_commands)) q) ∙ other)))
       (unsound t ∷ tests (Broadcast on c) t effects)
       refl
       (λ p q.
@@ -199,12 +199,12 @@ module _ (on : HardwareHartId) (c : ConfidentialHartRemoteCommand) (t : Tables) 
 
 -- what a hart goes on with, by its record y once its commands are done, and the record z that it is left with: off leaves the operation; an operation was
 -- there and is taken; run is for a hart that waits for nothing
-pub data GoneOn : Answer → ConfidentialHart → ConfidentialHart → Type 0 where
-  refused : {e : Error} {y z : ConfidentialHart} → GoneOn (Refused e) y z
-  off : {y z : ConfidentialHart} → y.lifecycle ≡ powered_off → z ≡ y → GoneOn PoweredOff y z
+pub data GoneOn : Answered → ConfidentialHart → ConfidentialHart → Type 0 where
+  refused : {e : Error} {y z : ConfidentialHart} → GoneOn (Err e) y z
+  off : {y z : ConfidentialHart} → y.lifecycle ≡ powered_off → z ≡ y → GoneOn (Ok PoweredOff) y z
   took : {y z : ConfidentialHart} → y.lifecycle ≢ powered_off → y.operation ≢ no_operation → z ≡ with_operation no_operation 0 0 y
-      → GoneOn (Operation y.operation y.x y.y) y z
-  runs : {y z : ConfidentialHart} → y.lifecycle ≢ powered_off → y.operation ≡ no_operation → z ≡ y → GoneOn Run y z
+      → GoneOn (Ok (Operation y.operation y.x y.y)) y z
+  runs : {y z : ConfidentialHart} → y.lifecycle ≢ powered_off → y.operation ≡ no_operation → z ≡ y → GoneOn (Ok Run) y z
 
 goes_tells : (hardware : List ℕ) (k : ℕ) → k * hart_words + hart_words ≤ length hardware
     → GoneOn (goes_on hardware k).answer (hart_at hardware k) (hart_at (goes_on hardware k).hardware k)

@@ -1,5 +1,5 @@
 -- What the monitor is: for each request its tests in order, and then its effect; and setup.
-use Rattle.std.specs.Prelude.{ℕ, zero, suc, ◌+◌, ◌*◌, Bool, true, false, ◌&&◌, not, List, [], ◌∷◌, ◌++◌, length, set, replicate, eqb, leb, ltb}
+use Rattle.std.specs.Prelude.{Result, Ok, Err, ℕ, zero, suc, ◌+◌, ◌*◌, Bool, true, false, ◌&&◌, not, List, [], ◌∷◌, ◌++◌, length, set, replicate, eqb, leb, ltb}
 use Rattle.std.specs.Int.Bits.{bit_or}
 use Rattle.error.specs.declared.Error.{Error}
 use Rattle.error.specs.declared.Error.TheVariants.{
@@ -62,10 +62,9 @@ use Rattle.monitor_requests.specs.declared.Request.TheVariants.{
   Process,
   Resume,
 }
-use Rattle.monitor_requests.specs.declared.Answer.{Answer}
-use Rattle.monitor_requests.specs.declared.Answer.TheVariants.{Refused, Done, Mask, State, Flag, Count, Run, PoweredOff, Operation}
+use Rattle.monitor_requests.specs.declared.Answer.TheVariants.{Done, Mask, State, Flag, Count, Run, PoweredOff, Operation}
 use Rattle.monitor_requests.specs.declared.Reply.{Reply}
-use Rattle.monitor_requests.specs.Answers.{given, values}
+use Rattle.monitor_requests.specs.Answers.{Answered, given, values}
 use Rattle.monitor_requests.specs.Tables.{
   Tables,
   tables,
@@ -86,17 +85,17 @@ use Rattle.monitor_requests.specs.Tables.{
 
 -- the answer and how many effect records were written, and the tables and the effects room afterwards
 pub record Outcome : Type 0 where
-  pub answer : Answer
+  pub answer : Answered
   pub did : ℕ
   pub after : Tables
   pub effects : List ℕ
 
 -- the four together
-abbrev pub outcome : Answer → ℕ → Tables → List ℕ → Outcome
+abbrev pub outcome : Answered → ℕ → Tables → List ℕ → Outcome
 outcome answer did after effects = record { answer = answer; did = did; after = after; effects = effects }
 
 -- no command was done
-abbrev pub answering : Answer → Tables → List ℕ → Outcome
+abbrev pub answering : Answered → Tables → List ℕ → Outcome
 answering answer after effects = outcome answer 0 after effects
 
 -- what an entry that does commands gives, with the tables and the effects room that it leaves
@@ -113,7 +112,17 @@ reply_values a = a.did ∷ values (given a.answer)
 
 -- a refusal before any command was done
 abbrev pub refused_reply : Error → Reply
-refused_reply error = record { answer = Refused error; did = 0 }
+refused_reply error = record { answer = Err error; did = 0 }
+
+-- a reply, or a refusal before any command was done
+abbrev pub replying : Result Reply Error → Reply
+replying (Ok reply) = reply
+replying (Err error) = refused_reply error
+
+-- how many commands a hart did of its queue, or a refusal, as a reply
+abbrev pub counting : Result ℕ Error → Reply
+counting (Ok count) = record { answer = Ok (Count count); did = count }
+counting (Err error) = refused_reply error
 
 -- a test: the error that is given exactly when it holds
 pub record Test : Type 0 where
@@ -129,9 +138,13 @@ abbrev pub judged : {A : Type 0} → (Error → A) → List Test → A → A
 judged refusal [] next = next
 judged refusal (x ∷ xs) next = pick x.when (refusal x.error) (judged refusal xs next)
 
+-- tests in order as a result: the error of the first that holds; if none holds, the value
+abbrev pub tried : {A : Type 0} → List Test → A → Result A Error
+tried xs value = judged Err xs (Ok value)
+
 -- a refusal changes nothing
 abbrev pub refused_on : Tables → List ℕ → Error → Outcome
-refused_on t effects error = answering (Refused error) t effects
+refused_on t effects error = answering (Err error) t effects
 
 -- ---- parts of tests
 
@@ -167,6 +180,14 @@ no_room records effects = refuse RoomTooShort (ltb (length effects) (records * e
 unfoldable pub refuses : Entry → Bool
 refuses (becomes state) = false
 refuses (refused number) = true
+
+-- 12 as a result
+abbrev pub judgement : Tables → Result (Unit {0}) Error
+judgement t = tried (unsound t ∷ []) tt
+
+-- 14 and 16 as a result: the row of a real hart on hardware
+abbrev pub held_at : ℕ → Tables → Result ℕ Error
+held_at k t = tried (no_hardware_hart k t ∷ idle k t ∷ []) k
 
 -- ---- tests
 
@@ -299,20 +320,25 @@ interrupting x mask = pick (is_dummy x) (set_bit x.id mask) mask
 
 -- the answer of a broadcast, and the queues afterwards
 pub record Delivery : Type 0 where
-  pub answer : Answer
+  pub answer : Answered
   pub queues : List ℕ
 
 -- the two together
-abbrev pub delivery : Answer → List ℕ → Delivery
+abbrev pub delivery : Answered → List ℕ → Delivery
 delivery answer queues = record { answer = answer; queues = queues }
+
+-- a mask, or the error that ended the broadcast, as an answer
+abbrev pub masked : Result ℕ Error → Answered
+masked (Ok mask) = Ok (Mask mask)
+masked (Err error) = Err error
 
 -- the harts from h on, so many left to visit, with the mask so far: one that does not receive is passed over, a queue of 64 refuses and ends
 -- the broadcast, and else the command is offered to the hart's queue
 unfoldable pub deliver : List ℕ → ℕ → ConfidentialHartRemoteCommand → ℕ → ℕ → ℕ → List ℕ → Delivery
-deliver home sender c zero h mask queues = delivery (Mask mask) queues
+deliver home sender c zero h mask queues = delivery (Ok (Mask mask)) queues
 deliver home sender c (suc left) h mask queues =
     pick (not (receives home sender c h)) (deliver home sender c left (h + 1) mask queues)
-    (pick (leb max_commands (count (row queue_words queues h))) (delivery (Refused ReachedMaxNumberOfRemoteCommands) queues)
+    (pick (leb max_commands (count (row queue_words queues h))) (delivery (Err ReachedMaxNumberOfRemoteCommands) queues)
     (deliver home sender c left (h + 1) (interrupting (hart_at home h) mask)
     (put queue_words queues h (offered (row queue_words queues h) c).queue)))
 
@@ -356,25 +382,25 @@ processed cs k h t = with_queues (put queue_words t.queues h emptied) (doing cs 
 
 -- it did every queued command in order, and their count is given
 abbrev pub processes : List ConfidentialHartRemoteCommand → ℕ → ℕ → Tables → List ℕ → Outcome
-processes cs k h t effects = with_effects h cs (answering (Count (length cs)) (processed cs k h t) effects)
+processes cs k h t effects = with_effects h cs (answering (Ok (Count (length cs))) (processed cs k h t) effects)
 
 -- what a hart goes on with, and the hardware rows afterwards
 pub record Going : Type 0 where
-  pub answer : Answer
+  pub answer : Answered
   pub hardware : List ℕ
 
 -- the two together
-abbrev pub going : Answer → List ℕ → Going
+abbrev pub going : Answered → List ℕ → Going
 going answer hardware = record { answer = answer; hardware = hardware }
 
 -- if PoweredOff, the hart in row k answers off and leaves the operation; else it takes the operation and answers it; else run
 unfoldable pub goes_on : List ℕ → ℕ → Going
 goes_on hardware k =
-    pick (eqb (hart_at hardware k).lifecycle powered_off) (going PoweredOff hardware)
+    pick (eqb (hart_at hardware k).lifecycle powered_off) (going (Ok PoweredOff) hardware)
     (pick (not (eqb (hart_at hardware k).operation no_operation))
-    (going (Operation (hart_at hardware k).operation (hart_at hardware k).x (hart_at hardware k).y)
+    (going (Ok (Operation (hart_at hardware k).operation (hart_at hardware k).x (hart_at hardware k).y))
     (put hart_words hardware k (to_words (with_operation no_operation 0 0 (hart_at hardware k)))))
-    (going Run hardware))
+    (going (Ok Run) hardware))
 
 -- the answer and the tables then
 abbrev pub resumed : ℕ → Tables → List ℕ → Outcome
@@ -388,22 +414,22 @@ resumes cs k h t effects = with_effects h cs (resumed k (processed cs k h t) eff
 
 -- the effect of each request, once its tests are passed: its answer, and the tables and the effects room afterwards
 unfoldable pub effect : Request → Tables → List ℕ → Outcome
-effect (Steal hart on) t effects = answering (Mask (allowed t)) (exchanged hart.0 on.0 t) effects
-effect (Return on) t effects = answering Done (exchanged (held_id t on.0) on.0 t) effects
+effect (Steal hart on) t effects = answering (Ok (Mask (allowed t))) (exchanged hart.0 on.0 t) effects
+effect (Return on) t effects = answering (Ok Done) (exchanged (held_id t on.0) on.0 t) effects
 effect (Start hart address opaque) t effects =
-    answering Done (with_home (put hart_words t.home hart.0 (to_words (after_start address opaque (home_hart t hart.0)).hart)) t) effects
-effect (Suspend on) t effects = answering Done (with_held on.0 (after_suspend (hardware_hart t on.0)).hart t) effects
-effect (Stop on) t effects = answering Done (with_held on.0 (after_stop (hardware_hart t on.0)).hart t) effects
-effect (Wake on address opaque) t effects = answering Done (with_held on.0 (after_wake address opaque (hardware_hart t on.0)).hart t) effects
-effect (Off on) t effects = answering Done (with_held on.0 (after_off (hardware_hart t on.0)).hart t) effects
-effect (Await on kind x y) t effects = answering Done (with_held on.0 (with_operation kind x y (hardware_hart t on.0)) t) effects
-effect (Status hart) t effects = answering (State (home_hart t hart.0).lifecycle) t effects
-effect Home t effects = answering (Flag (every (λ h. not (is_dummy (home_hart t h))) (harts t))) t effects
+    answering (Ok Done) (with_home (put hart_words t.home hart.0 (to_words (after_start address opaque (home_hart t hart.0)).hart)) t) effects
+effect (Suspend on) t effects = answering (Ok Done) (with_held on.0 (after_suspend (hardware_hart t on.0)).hart t) effects
+effect (Stop on) t effects = answering (Ok Done) (with_held on.0 (after_stop (hardware_hart t on.0)).hart t) effects
+effect (Wake on address opaque) t effects = answering (Ok Done) (with_held on.0 (after_wake address opaque (hardware_hart t on.0)).hart t) effects
+effect (Off on) t effects = answering (Ok Done) (with_held on.0 (after_off (hardware_hart t on.0)).hart t) effects
+effect (Await on kind x y) t effects = answering (Ok Done) (with_held on.0 (with_operation kind x y (hardware_hart t on.0)) t) effects
+effect (Status hart) t effects = answering (Ok (State (home_hart t hart.0).lifecycle)) t effects
+effect Home t effects = answering (Ok (Flag (every (λ h. not (is_dummy (home_hart t h))) (harts t)))) t effects
 effect (Send sender c) t effects = sends sender c t effects
-effect (Allow bits) t effects = answering Done (with_head (set t.head allowed_word (bit_or (allowed t) bits)) t) effects
-effect (Add base size) t effects = answering Done (with_regions (regions_of t ++ (region_from base size ∷ [])) t) effects
-effect (Remove base size) t effects = answering Done (with_regions (with_removed (region_from base size) (regions_of t)) t) effects
-effect (Defined base size) t effects = answering (Flag (any_contains (region_from base size) (regions_of t))) t effects
+effect (Allow bits) t effects = answering (Ok Done) (with_head (set t.head allowed_word (bit_or (allowed t) bits)) t) effects
+effect (Add base size) t effects = answering (Ok Done) (with_regions (regions_of t ++ (region_from base size ∷ [])) t) effects
+effect (Remove base size) t effects = answering (Ok Done) (with_regions (with_removed (region_from base size) (regions_of t)) t) effects
+effect (Defined base size) t effects = answering (Ok (Flag (any_contains (region_from base size) (regions_of t)))) t effects
 effect (Broadcast on c) t effects = broadcasts c on.0 (held_id t on.0) t effects
 effect (Process on) t effects = processes (held_commands t on.0) on.0 (held_id t on.0) t effects
 effect (Resume on) t effects = resumes (held_commands t on.0) on.0 (held_id t on.0) t effects
@@ -466,4 +492,4 @@ setup_tests s t =
 
 -- a setup of any tables, sound or not, which is lent no effects room
 unfoldable pub set_up : Setup → Tables → Outcome
-set_up s t = judged (refused_on t []) (setup_tests s t) (answering Done (fresh s t) [])
+set_up s t = judged (refused_on t []) (setup_tests s t) (answering (Ok Done) (fresh s t) [])

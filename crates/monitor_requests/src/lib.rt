@@ -6,15 +6,14 @@
 // `specs/Requests.antt`.
 #![tactic(auto)]
 
-ghost use Rattle.std.specs.Prelude.{◌≡◌, [], ◌∷◌};
-ghost use Rattle.error.specs.Error.{done};
-ghost use Rattle.monitor_requests.specs.declared.Word.TheVariants.{NoWord};
-ghost use Rattle.monitor_requests.specs.Answers.{gives, given, Tells};
+ghost use Rattle.std.specs.Prelude.{◌≡◌, ◌≤◌, length};
+ghost use Rattle.monitor_requests.specs.Answers.{gives, given, most_details};
 ghost use Rattle.monitor_requests.specs.Requests.{refused_reply};
 
 use confidential_hart::{ConfidentialHartId, HardwareHartId};
 use confidential_hart_remote_command::ConfidentialHartRemoteCommand;
 use error::Error;
+use std::marker::Model;
 
 // The words of the head, which stand in this order: how many harts and hardware harts there are, the external interrupts that are
 // allowed, and how many regions stand.
@@ -58,7 +57,7 @@ pub enum Request {
     // an address and an opaque number
     Wake(HardwareHartId, u64, u64),
     Off(HardwareHartId),
-    // the kind of an operation and its two numbers
+    // the kind of an operation and its two numbers, which may be any numbers: 19 refuses what is no kind
     Await(HardwareHartId, u64, u64, u64),
     Status(ConfidentialHartId),
     // whether every hart is at home
@@ -76,14 +75,13 @@ pub enum Request {
     Resume(HardwareHartId),
 }
 
-// What the monitor answers.
+// What the monitor answers where it does not refuse.
 #[derive(Clone, Copy)]
 pub enum Answer {
-    Refused(Error),
     Done,
     // the external interrupts that are allowed, or the hardware harts to interrupt
     Mask(u64),
-    // a lifecycle
+    // a lifecycle, by the number that stands in the tables
     State(u64),
     Flag(bool),
     // how many commands were done
@@ -94,102 +92,100 @@ pub enum Answer {
     Operation(u64, u64, u64),
 }
 
-// What stands between the number of an answer and its details.
-#[derive(Clone, Copy)]
+// The word that says what a hart goes on with. As a value it is a number.
+#[derive(Clone, Copy, Debug, PartialEq, Eq)]
 pub enum Word {
-    NoWord,
-    // the three that say what a hart goes on with
-    Run,
-    Off,
-    Op,
+    Run = 0,
+    Off = 1,
+    Op = 2,
 }
 
 // How many numbers the details of an answer are at most.
 pub const MOST_DETAILS: usize = 3;
 
-// An answer for whoever writes it down: its number, its word, and its details, which are the first `count` of the numbers.
-#[derive(Clone, Copy)]
+// What a request gives, for whoever writes it down: its number, which C and the trace are given, its word if it has one, and its details.
+#[derive(Drop, Clone)]
 pub struct Told {
-    pub number: u64,
-    pub word: Word,
-    pub count: usize,
-    pub details: [u64; MOST_DETAILS],
+    number: u64,
+    word: Option<Word>,
+    // the details are the first `count` of these: there is no heap, and a vector of fixed capacity would be a library more for three numbers
+    numbers: [u64; MOST_DETAILS],
+    count: usize,
+}
+
+impl Model for Told {
+    ghost use Rattle.std.specs.Prelude.{◌≤◌, take};
+    ghost use Rattle.monitor_requests.specs.Answers.{Given, gives, most_details};
+
+    ghost Value = { Given };
+
+    ghost view = { λ t. gives t.number t.word (take t.count t.numbers) };
+
+    ghost invariant = { λ t. t.count ≤ most_details };
 }
 
 impl Told {
-    // A number alone.
-    fn number(number: u64) -> Told
-        ensures { Tells (gives number NoWord []) result }
+    fn with(number: u64, word: Option<Word>, details: &[u64]) -> Told
+        requires { length details.now ≤ most_details }
+        ensures { result ≡ gives number word details.now }
     {
+        let count = details.len();
+        let mut numbers = [0; MOST_DETAILS];
+        numbers[..count].copy_from_slice(details);
         Told {
             number,
-            word: Word::NoWord,
-            count: 0,
-            details: [0; MOST_DETAILS],
-        }
-    }
-
-    // 0 and one number.
-    fn value(value: u64) -> Told
-        ensures { Tells (gives done NoWord (value ∷ [])) result }
-    {
-        Told {
-            number: error::DONE,
-            word: Word::NoWord,
-            count: 1,
-            details: [value, 0, 0],
-        }
-    }
-
-    // 0 and a word.
-    fn word(word: Word) -> Told
-        ensures { Tells (gives done word []) result }
-    {
-        Told {
-            number: error::DONE,
             word,
-            count: 0,
-            details: [0; MOST_DETAILS],
-        }
-    }
-}
-
-impl Answer {
-    // Its number, its word and its details.
-    pub fn told(self) -> Told
-        ensures { Tells (given self) result }
-    {
-        match self {
-            Answer::Refused(e) => Told::number(e.number()),
-            Answer::Done => Told::number(error::DONE),
-            Answer::Mask(mask) => Told::value(mask),
-            Answer::State(state) => Told::value(state),
-            Answer::Flag(flag) => Told::value(flag as u64),
-            Answer::Count(count) => Told::value(count),
-            Answer::Run => Told::word(Word::Run),
-            Answer::PoweredOff => Told::word(Word::Off),
-            Answer::Operation(kind, x, y) => Told {
-                number: error::DONE,
-                word: Word::Op,
-                count: 3,
-                details: [kind, x, y],
-            },
+            numbers,
+            count,
         }
     }
 
-    // Its number: 0, or that of the error.
-    pub fn number(self) -> u64
-        ensures { result ≡ (given self).number }
+    // What a request gives.
+    pub fn new(answered: Result<Answer, Error>) -> Told
+        ensures { result ≡ given answered }
     {
-        self.told().number
+        let number = error::number_in(answered);
+        match answered {
+            Err(_) => Told::with(number, None, &[]),
+            Ok(Answer::Done) => Told::with(number, None, &[]),
+            Ok(Answer::Mask(mask)) => Told::with(number, None, &[mask]),
+            Ok(Answer::State(state)) => Told::with(number, None, &[state]),
+            Ok(Answer::Flag(flag)) => Told::with(number, None, &[u64::from(flag)]),
+            Ok(Answer::Count(count)) => Told::with(number, None, &[count]),
+            Ok(Answer::Run) => Told::with(number, Some(Word::Run), &[]),
+            Ok(Answer::PoweredOff) => Told::with(number, Some(Word::Off), &[]),
+            Ok(Answer::Operation(kind, x, y)) => Told::with(number, Some(Word::Op), &[kind, x, y]),
+        }
+    }
+
+    // Its number.
+    pub fn number(&self) -> u64
+        ensures { result ≡ self.now.number }
+    {
+        self.number
+    }
+
+    // Its word.
+    pub fn word(&self) -> Option<Word>
+        ensures { result ≡ self.now.word }
+    {
+        self.word
+    }
+
+    // Its details, at most three.
+    pub fn details(&self) -> &[u64]
+        ensures same { result.now ≡ self.now.details }
+        ensures few { length result.now ≤ most_details }
+    {
+        &self.numbers[..self.count]
     }
 }
 
-// What a request that does commands gives: its answer, and how many effect records it wrote. A broadcast that is refused because a queue is full
-// may have written one.
+// What a request that does commands gives: its answer or the error that refuses it, and how many effect records it wrote. A broadcast that is
+// refused because a queue is full may have written one.
 #[derive(Clone, Copy)]
 pub struct Reply {
-    pub answer: Answer,
+    pub answer: Result<Answer, Error>,
     pub did: u64,
 }
 
@@ -199,7 +195,7 @@ impl Reply {
         ensures { result ≡ refused_reply e }
     {
         Reply {
-            answer: Answer::Refused(e),
+            answer: Err(e),
             did: 0,
         }
     }

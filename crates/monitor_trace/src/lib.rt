@@ -9,18 +9,19 @@ ghost use Rattle.monitor_trace.specs.Trace.{line_outcome, turn, turned};
 use error::Error;
 use monitor_requests::Reply;
 use trace_answers::MOST_PRINTED;
-use trace_requests::{Parsed, TraceLine};
+use trace_requests::TraceLine;
 
-// What a turn gives: whether the trace is ready, which it is from the first accepted setup on, and how many bytes were printed.
+// What a turn gives: whether the trace is ready, which it is from the first accepted setup on, and how many bytes were printed, if any were.
 #[derive(Clone, Copy)]
 pub struct Turn {
     pub ready: bool,
-    pub length: usize,
+    pub length: Option<usize>,
 }
 
-// Performs a line of a trace. A request is refused before the trace is ready.
-fn perform_traced(
-    line: TraceLine,
+// Performs the request of a line. A line that is no request's is refused, and so is a request before the trace is ready.
+// The tables are lent one by one, as the entries take them (`perform_request::perform`).
+fn perform_line(
+    line: Option<TraceLine>,
     ready: bool,
     head: &mut [u64],
     home: &mut [u64],
@@ -30,50 +31,24 @@ fn perform_traced(
     effects: &mut [u64],
 ) -> Reply
     ensures { replied result (tables head.new home.new hardware.new queues.new regions.new) effects.new
-        ≡ line_outcome (Parsed.Read line) ready (tables head.old home.old hardware.old queues.old regions.old) effects.old }
+        ≡ line_outcome line ready (tables head.old home.old hardware.old queues.old regions.old) effects.old }
 {
     match line {
-        TraceLine::SetUp(setup) => Reply {
+        Some(TraceLine::SetUp(setup)) => Reply {
             answer: confidential_vm_setup::new(setup, head, home, hardware, queues, regions),
             did: 0,
         },
-        TraceLine::Ask(request) => {
-            if ready {
-                return perform_request::perform(
-                    request, head, home, hardware, queues, regions, effects,
-                );
-            }
-            Reply::refused(Error::BadLine)
-        }
-    }
-}
-
-// Performs the request of a line. A line that is no request's is refused.
-fn perform_line(
-    parsed: Parsed,
-    ready: bool,
-    head: &mut [u64],
-    home: &mut [u64],
-    hardware: &mut [u64],
-    queues: &mut [u64],
-    regions: &mut [u64],
-    effects: &mut [u64],
-) -> Reply
-    ensures { replied result (tables head.new home.new hardware.new queues.new regions.new) effects.new
-        ≡ line_outcome parsed ready (tables head.old home.old hardware.old queues.old regions.old) effects.old }
-{
-    match parsed {
-        Parsed::Read(line) => perform_traced(
-            line, ready, head, home, hardware, queues, regions, effects,
+        Some(TraceLine::Ask(request)) if ready => perform_request::perform(
+            request, head, home, hardware, queues, regions, effects,
         ),
-        Parsed::BadLine => Reply::refused(Error::BadLine),
+        _ => Reply::refused(Error::BadLine),
     }
 }
 
 // A line of a trace: performs its request, and prints the answer over the front of `out`. With less room than any answer may take nothing is
 // done, and nothing printed.
 pub fn answer_line(
-    parsed: Parsed,
+    line: Option<TraceLine>,
     ready: bool,
     head: &mut [u64],
     home: &mut [u64],
@@ -84,22 +59,17 @@ pub fn answer_line(
     out: &mut [u8],
 ) -> Turn
     ensures { turned result (tables head.new home.new hardware.new queues.new regions.new) effects.new out.new
-        ≡ turn parsed ready (tables head.old home.old hardware.old queues.old regions.old) effects.old out.old }
+        ≡ turn line ready (tables head.old home.old hardware.old queues.old regions.old) effects.old out.old }
 {
     if out.len() < MOST_PRINTED {
         return Turn {
-            ready: ready,
-            length: 0,
+            ready,
+            length: None,
         };
     }
-    let answer = perform_line(
-        parsed, ready, head, home, hardware, queues, regions, effects,
-    );
-    let given = answer.answer;
-    let accepted = given.number() == error::DONE;
-    let length = trace_answers::print(answer, effects, out);
+    let reply = perform_line(line, ready, head, home, hardware, queues, regions, effects);
     Turn {
-        ready: ready | accepted,
-        length: length,
+        ready: ready | reply.answer.is_ok(),
+        length: trace_answers::print(reply, effects, out),
     }
 }

@@ -1,4 +1,6 @@
-// Any request of the monitor on lent tables: the request's own entry performs it.
+// Any request of the monitor on lent tables: the request's own entry performs it. It is done in three parts, each of which lends what its
+// requests write. A request is an enum with what it takes, so a match is all that a choice of the entry needs. The five tables are lent one
+// by one: `sound_tables` says why.
 #![tactic(auto)]
 
 ghost use Rattle.std.specs.Prelude.{◌≡◌, true, []};
@@ -6,6 +8,7 @@ ghost use Rattle.monitor_requests.specs.Tables.{tables};
 ghost use Rattle.monitor_requests.specs.Requests.{answering, replied, performed, does_no_command};
 ghost use Rattle.perform_request.specs.HardwareAlone.{hardware_alone};
 
+use error::Error;
 use monitor_requests::{Answer, Reply, Request};
 
 // Performs a request that writes no table but the hardware rows. The last arm is `Home`.
@@ -16,7 +19,7 @@ fn perform_on_hardware(
     hardware: &mut [u64],
     queues: &[u64],
     regions: &[u64],
-) -> Answer
+) -> Result<Answer, Error>
     requires { hardware_alone request ≡ true }
     ensures { answering result (tables head.now home.now hardware.new queues.now regions.now) []
         ≡ performed request (tables head.now home.now hardware.old queues.now regions.now) [] }
@@ -55,7 +58,7 @@ fn perform_without_effects(
     hardware: &mut [u64],
     queues: &mut [u64],
     regions: &mut [u64],
-) -> Answer
+) -> Result<Answer, Error>
     requires { does_no_command request ≡ true }
     ensures { answering result (tables head.new home.new hardware.new queues.new regions.new) []
         ≡ performed request (tables head.old home.old hardware.old queues.old regions.old) [] }

@@ -1,4 +1,5 @@
 -- What a queue holds after an offer, and after it was emptied. Assumes nothing.
+use borrow.Author.Rules.{rules}
 use mathlib.Core.Path.{◌≡◌, refl, sym, ap, ap₂, ◌∙◌}
 use mathlib.Core.Bool.{true, false, not}
 use mathlib.Core.Logic.{inr, ⊎_elim}
@@ -12,7 +13,8 @@ use lib.ListN.{length, get_or, drop, replicate, length-drop, length-replicate, g
 use lib.Seq.{get_or-drop}
 use lib.Dec.{leb, eqb}
 use borrow.Author.Tests.{le-leb, lt-leb, leb-true, leb-false, eq-eqb, eqb-true, not-true}
-use Rattle.error.specs.Error.{done, reached_max_number_of_remote_commands}
+use Rattle.std.proofs.Common.{Ok, Err}
+use Rattle.error.specs.declared.Error.TheVariants.{ReachedMaxNumberOfRemoteCommands}
 use Rattle.table_rows.specs.Choice.{pick, every, all_zero, exists}
 use Rattle.table_rows.specs.Lists.{up_to, any_of}
 use Rattle.table_rows.proofs.PickLaws.{yes, no, by_pick, by_test, and_left, and_right, and_both, not_yes}
@@ -173,22 +175,22 @@ module _ (q : List ℕ) (c : ConfidentialHartRemoteCommand) (long : length q ≡
 -- ---- an offer, by its three cases
 
 module _ (q : List ℕ) (c : ConfidentialHartRemoteCommand) where
-  pub offer_full : max_commands ≤ count q → offered q c ≡ offer reached_max_number_of_remote_commands q
+  pub offer_full : max_commands ≤ count q → offered q c ≡ offer (Err ReachedMaxNumberOfRemoteCommands) q
   unfolding offered
   offer_full l = sym (yes _ (le-leb _ _ l) refl)
 
-  pub offer_duplicate : count q < max_commands → queued q c ≡ true → offered q c ≡ offer done q
+  pub offer_duplicate : count q < max_commands → queued q c ≡ true → offered q c ≡ offer (Ok tt) q
   unfolding offered
   offer_duplicate l e = sym (no _ (lt-leb _ _ l) (yes _ e refl))
 
-  pub offer_new : count q < max_commands → queued q c ≡ false → offered q c ≡ offer done (pushed q c)
+  pub offer_new : count q < max_commands → queued q c ≡ false → offered q c ≡ offer (Ok tt) (pushed q c)
   unfolding offered
   offer_new l e = sym (no _ (lt-leb _ _ l) (no _ e refl))
 
   pub by_offer : (P : Offer → Type 0)
-      → (max_commands ≤ count q → P (offer reached_max_number_of_remote_commands q))
-      → (count q < max_commands → queued q c ≡ true → P (offer done q))
-      → (count q < max_commands → queued q c ≡ false → P (offer done (pushed q c)))
+      → (max_commands ≤ count q → P (offer (Err ReachedMaxNumberOfRemoteCommands) q))
+      → (count q < max_commands → queued q c ≡ true → P (offer (Ok tt) q))
+      → (count q < max_commands → queued q c ≡ false → P (offer (Ok tt) (pushed q c)))
       → P (offered q c)
   unfolding offered
   by_offer P full twice new =
@@ -209,9 +211,9 @@ module _ (q : List ℕ) (c : ConfidentialHartRemoteCommand) where
         (λ l e. no _ (lt-leb _ _ l) (no _ e (push_commands q c long l))))
 
     -- where it is done, c waits afterwards
-    pub offer_queued : (offered q c).number ≡ done → queued (offered q c).queue c ≡ true
+    pub offer_queued : (offered q c).given ≡ Ok tt → queued (offered q c).queue c ≡ true
     offer_queued =
-        by_offer (λ o. o.number ≡ done → queued o.queue c ≡ true) (λ l e. absurd (omega arith)) (λ l e d. e)
+        by_offer (λ o. o.given ≡ Ok tt → queued o.queue c ≡ true) (λ l e. search rules) (λ l e d. e)
         (λ l e d. member_queued (pushed q c) c (rw (push_commands q c long l) (Memᴰ.append_right (commands q) (Memᴰ.head refl))))
 
     pub offer_well_formed : well_formed c ≡ true → queue_well_formed q ≡ true → queue_well_formed (offered q c).queue ≡ true

@@ -1,6 +1,7 @@
 -- One hart's queue: the count, and then 64 commands of 6 words.
-use Rattle.std.specs.Prelude.{ℕ, ◌+◌, ◌*◌, Bool, not, ◌&&◌, List, [], ◌∷◌, ◌++◌, length, get_or, drop, replicate, leb}
-use Rattle.error.specs.Error.{done, reached_max_number_of_remote_commands}
+use Rattle.std.specs.Prelude.{ℕ, ◌+◌, ◌*◌, Bool, not, ◌&&◌, List, [], ◌∷◌, ◌++◌, length, get_or, drop, replicate, leb, Result, Ok, Err}
+use Rattle.error.specs.declared.Error.{Error}
+use Rattle.error.specs.declared.Error.TheVariants.{ReachedMaxNumberOfRemoteCommands}
 use Rattle.table_rows.specs.Rows.{row, put}
 use Rattle.table_rows.specs.Lists.{up_to, any_of}
 use Rattle.table_rows.specs.Choice.{pick, every, all_zero, exists}
@@ -59,15 +60,15 @@ with_offered c cs = pick (leb max_commands (length cs)) cs (pick (any_of (λ d. 
 
 -- what an offer gives back, and the queue afterwards
 pub record Offer : Type 0 where
-  pub number : ℕ
+  pub given : Result (Unit {0}) Error
   pub queue : List ℕ
 
 -- the two together
-abbrev pub offer : ℕ → List ℕ → Offer
-offer n q = record { number = n; queue = q }
+abbrev pub offer : Result (Unit {0}) Error → List ℕ → Offer
+offer r q = record { given = r; queue = q }
 
 -- a queue of 64 refuses, even a duplicate; an equal command is not added again; else it goes last
 unfoldable pub offered : List ℕ → ConfidentialHartRemoteCommand → Offer
 offered q c =
-    pick (leb max_commands (count q)) (offer reached_max_number_of_remote_commands q)
-    (pick (queued q c) (offer done q) (offer done (pushed q c)))
+    pick (leb max_commands (count q)) (offer (Err ReachedMaxNumberOfRemoteCommands) q)
+    (pick (queued q c) (offer (Ok tt) q) (offer (Ok tt) (pushed q c)))

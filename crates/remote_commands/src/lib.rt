@@ -11,6 +11,9 @@ ghost use Rattle.confidential_hart_remote_command.specs.Command.{well_formed};
 ghost use Rattle.remote_commands.specs.Queue.{queue_words, max_commands, count, command_at, queued, queue_well_formed, pushed, emptied, offer, offered};
 
 use confidential_hart_remote_command::{COMMAND_WORDS, ConfidentialHartRemoteCommand};
+use error::Error;
+
+// A queue is a row that is lent from the table of queues, so each function asks for its length: a type for it would be made at each call.
 
 // A queue's room.
 pub const MAX_NUMBER_OF_COMMANDS: usize = 64;
@@ -23,9 +26,8 @@ pub fn command(queue: &[u64], i: usize) -> ConfidentialHartRemoteCommand
     requires { (length queue.now ≡ queue_words) × (i < max_commands) }
     ensures { result ≡ command_at queue.now i }
 {
-    let a = 1 + i * COMMAND_WORDS;
-    let e = a + COMMAND_WORDS;
-    ConfidentialHartRemoteCommand::from_words(&queue[a..e])
+    let places = &queue[1..];
+    ConfidentialHartRemoteCommand::from_words(table_rows::row(places, COMMAND_WORDS, i))
 }
 
 // Whether each of the first `n` commands is well formed.
@@ -33,13 +35,7 @@ fn are_commands_well_formed(queue: &[u64], n: usize) -> bool
     requires { (length queue.now ≡ queue_words) × (n ≤ max_commands) }
     ensures { result ≡ every (λ i. well_formed (command_at queue.now i)) n }
 {
-    let mut all = true;
-    let mut i = 0;
-    while i < n {
-        all = all & command(queue, i).is_well_formed();
-        i += 1;
-    }
-    all
+    (0..n).all(|i| command(queue, i).is_well_formed())
 }
 
 // Whether a row is a queue: at most 64 commands, each well formed, and 0 in every place past the last.
@@ -55,20 +51,16 @@ pub fn is_queue_well_formed(queue: &[u64]) -> bool
     are_commands_well_formed(queue, n) & table_rows::all_zero(&queue[end..])
 }
 
-// Whether a command waits in a queue.
+// Whether a command waits in a queue. The masks are compared first: they tell most commands apart, and a search took twice as long without.
 pub fn find(queue: &[u64], c: ConfidentialHartRemoteCommand) -> bool
     requires { (length queue.now ≡ queue_words) × (count queue.now ≤ max_commands) }
     ensures { result ≡ queued queue.now c }
 {
     let n = queue[0] as usize;
-    let mut i = 0;
-    while i < n {
-        if command(queue, i).eq(c) {
-            return true;
-        }
-        i += 1;
-    }
-    false
+    (0..n).any(|i| {
+        let other = command(queue, i);
+        other.mask == c.mask && other == c
+    })
 }
 
 // The command goes last.
@@ -85,19 +77,19 @@ fn push(queue: &mut [u64], c: ConfidentialHartRemoteCommand)
 
 // A command for the hart of a queue. A full queue refuses, even a duplicate; a command that waits already is not added again; else it
 // goes last.
-pub fn offer(queue: &mut [u64], c: ConfidentialHartRemoteCommand) -> u64
+pub fn offer(queue: &mut [u64], c: ConfidentialHartRemoteCommand) -> Result<(), Error>
     requires { length queue.old ≡ queue_words }
     ensures { offer result queue.new ≡ offered queue.old c }
 {
     let n = queue[0] as usize;
     if MAX_NUMBER_OF_COMMANDS <= n {
-        return error::REACHED_MAX_NUMBER_OF_REMOTE_COMMANDS;
+        return Err(Error::ReachedMaxNumberOfRemoteCommands);
     }
     if find(queue, c) {
-        return error::DONE;
+        return Ok(());
     }
     push(queue, c);
-    error::DONE
+    Ok(())
 }
 
 // Leaves no command.

@@ -1,13 +1,13 @@
 -- What `is_row_sound` answers on each of its ways, and what `are_tables_sound` does. Assumes nothing.
-use Prim.Native.Nat.{ℕ, ◌+◌, ◌-◌, ◌*◌, ◌≤◌, ◌<◌}
+use Prim.Native.Nat.{ℕ, ◌≤◌, ◌<◌}
 use mathlib.Core.Path.{◌≡◌, sym, ap, ◌∙◌}
 use mathlib.Core.Bool.{Bool, true, false, not, ◌&&◌, and-false}
 use mathlib.Core.List.{List}
-use lib.ListN.{length, get_or, take, drop}
+use lib.ListN.{length, get_or}
 use lib.Dec.{eqb}
 use borrow.Author.Tests.{not-true, not-false, lt-leb, lt-ltb, le-ltb}
 use Rattle.table_rows.specs.Choice.{pick, every}
-use Rattle.table_rows.proofs.PartLaws.{part_row}
+use Rattle.table_rows.specs.Rows.{row}
 use Rattle.confidential_hart.specs.Hart.{well_formed}
 use Rattle.hart_rows.specs.HartRows.{vm_word, hart_words, from_words, hart_at}
 use Rattle.remote_commands.specs.Queue.{queue_well_formed}
@@ -29,22 +29,16 @@ use Rattle.monitor_requests.specs.Tables.{
 
 -- ---- a row
 
--- the part that is looked at is row i
-formed_part : (rows : List ℕ) (i : ℕ)
-    → well_formed (from_words (take (i * hart_words + hart_words - i * hart_words) (drop (i * hart_words) rows))) ≡ well_formed (hart_at rows i)
+-- the VM of the hart in row i is a word of the row
+pub vm_of : (rows : List ℕ) (i : ℕ) {looked : List ℕ} → looked ≡ row hart_words rows i → (hart_at rows i).vm ≡ get_or looked vm_word 0
 unfolding hart_at
-formed_part rows i = ap (λ (ws : List ℕ). well_formed (from_words ws)) (part_row hart_words rows i)
+vm_of rows i e = ap (λ (ws : List ℕ). get_or ws vm_word 0) (sym e)
 
--- and its VM is that of the hart in row i
-pub vm_part : (rows : List ℕ) (i vm : ℕ) → vm ≡ (hart_at rows i).vm
-    → vm ≡ get_or (take (i * hart_words + hart_words - i * hart_words) (drop (i * hart_words) rows)) vm_word 0
-unfolding hart_at
-vm_part rows i vm e = e ∙ ap (λ (ws : List ℕ). get_or ws vm_word 0) (sym (part_row hart_words rows i))
-
-module _ (own : ℕ) (rows others : List ℕ) (count i : ℕ) (formed : Bool)
-    (is-formed : formed ≡ well_formed (from_words (take (i * hart_words + hart_words - i * hart_words) (drop (i * hart_words) rows)))) where
+module _ (own : ℕ) (rows others : List ℕ) (count i : ℕ) {looked : List ℕ} (is-row : looked ≡ row hart_words rows i) (formed : Bool)
+    (is-formed : formed ≡ well_formed (from_words looked)) where
   row_formed : formed ≡ well_formed (hart_at rows i)
-  row_formed = is-formed ∙ formed_part rows i
+  unfolding hart_at
+  row_formed = is-formed ∙ ap (λ (ws : List ℕ). well_formed (from_words ws)) is-row
 
   pub row_malformed : not formed ≡ true → false ≡ row_sound own rows others count i
   unfolding row_sound

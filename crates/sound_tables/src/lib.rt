@@ -1,4 +1,6 @@
-// Whether the tables are sound: the judge that every request but setup asks first.
+// Whether the tables are sound: the judge that every request but setup asks first. The five tables are lent one by one, here and in the
+// entries: C lends those that a request does not write as `const`, so a struct that lends all five to be written would ask for more than C
+// gives. What takes all five to be written hands them on to such entries, and a struct would only be taken apart there.
 #![tactic(auto)]
 
 ghost use Rattle.std.specs.Prelude.{◌≡◌, ◌+◌, ◌*◌, ◌≤◌, length};
@@ -7,8 +9,10 @@ ghost use Rattle.table_rows.specs.Choice.{every};
 ghost use Rattle.hart_rows.specs.HartRows.{hart_words};
 ghost use Rattle.remote_commands.specs.Queue.{queue_words, queue_well_formed};
 ghost use Rattle.monitor_requests.specs.Tables.{max_harts, max_hardware_harts, counts_in_range, long_enough, row_sound, sound, tables};
+ghost use Rattle.monitor_requests.specs.Requests.{judgement};
 
 use confidential_hart::{NO_VM, VM};
+use error::Error;
 use hart_rows::HART_WORDS;
 use mmio_regions::TABLE_WORDS;
 use monitor_requests::{
@@ -49,11 +53,8 @@ fn is_row_sound(own: u64, rows: &[u64], others: &[u64], count: usize, i: usize) 
     requires { (i * hart_words + hart_words ≤ length rows.now) × (count * hart_words ≤ length others.now) }
     ensures { result ≡ row_sound own rows.now others.now count i }
 {
-    let a = i * HART_WORDS;
-    let e = a + HART_WORDS;
     let vm = hart_tables::vm(rows, i);
-    let malformed = !hart_rows::is_row_well_formed(vm, &rows[a..e]);
-    if malformed {
+    if !hart_rows::is_row_well_formed(vm, table_rows::row(rows, HART_WORDS, i)) {
         return false;
     }
     let id = hart_tables::id(rows, i);
@@ -74,15 +75,7 @@ fn are_rows_sound(own: u64, rows: &[u64], others: &[u64], n: usize, count: usize
     requires { (n * hart_words ≤ length rows.now) × (count * hart_words ≤ length others.now) }
     ensures { result ≡ every (row_sound own rows.now others.now count) n }
 {
-    let mut i = 0;
-    while i < n {
-        let bad = !is_row_sound(own, rows, others, count, i);
-        if bad {
-            return false;
-        }
-        i += 1;
-    }
-    true
+    (0..n).all(|i| is_row_sound(own, rows, others, count, i))
 }
 
 // Whether the queue of hart `i` is well formed.
@@ -90,9 +83,7 @@ fn is_queue_sound(queues: &[u64], i: usize) -> bool
     requires { i * queue_words + queue_words ≤ length queues.now }
     ensures { result ≡ queue_well_formed (row queue_words queues.now i) }
 {
-    let a = i * QUEUE_WORDS;
-    let e = a + QUEUE_WORDS;
-    remote_commands::is_queue_well_formed(&queues[a..e])
+    remote_commands::is_queue_well_formed(table_rows::row(queues, QUEUE_WORDS, i))
 }
 
 // Whether each of `n` queues is well formed.
@@ -100,15 +91,7 @@ fn are_queues_sound(queues: &[u64], n: usize) -> bool
     requires { n * queue_words ≤ length queues.now }
     ensures { result ≡ every (λ h. queue_well_formed (row queue_words queues.now h)) n }
 {
-    let mut i = 0;
-    while i < n {
-        let bad = !is_queue_sound(queues, i);
-        if bad {
-            return false;
-        }
-        i += 1;
-    }
-    true
+    (0..n).all(|i| is_queue_sound(queues, i))
 }
 
 // Whether the tables are sound, whatever they hold and however long they are.
@@ -126,12 +109,10 @@ pub fn are_tables_sound(
     }
     let n = head[HARTS_WORD];
     let m = head[HARDWARE_WORD];
-    let outside = !are_counts_in_range(n, m);
-    if outside {
+    if !are_counts_in_range(n, m) {
         return false;
     }
-    let short = !are_long_enough(n, m, head, home, hardware, queues, regions);
-    if short {
+    if !are_long_enough(n, m, head, home, hardware, queues, regions) {
         return false;
     }
     let at_home = are_rows_sound(VM, home, hardware, n as usize, m as usize);
@@ -139,4 +120,21 @@ pub fn are_tables_sound(
     let waiting = are_queues_sound(queues, n as usize);
     let standing = mmio_regions::regions_are_sound(regions, head[REGIONS_WORD]);
     at_home & on_hardware & waiting & standing
+}
+
+// Refuses tables that are not sound.
+pub fn judge(
+    head: &[u64],
+    home: &[u64],
+    hardware: &[u64],
+    queues: &[u64],
+    regions: &[u64],
+) -> Result<(), Error>
+    ensures { result ≡ judgement (tables head.now home.now hardware.now queues.now regions.now) }
+{
+    if are_tables_sound(head, home, hardware, queues, regions) {
+        Ok(())
+    } else {
+        Err(Error::TablesNotSound)
+    }
 }

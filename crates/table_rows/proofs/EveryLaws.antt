@@ -1,15 +1,12 @@
--- A test of every number below n, as a loop makes it: index by index, or joined and tested once. Assumes nothing.
+-- A test of every number below n, as a loop or a search makes it. Assumes nothing.
 use mathlib.Core.Path.{◌≡◌, refl, sym}
-use mathlib.Core.Bool.{Bool, true, false, not, and-false}
+use mathlib.Core.Bool.{Bool, true, false, ◌&&◌, and-true, and-false}
+use Rattle.std.proofs.Math.Bool.{and_assoc}
 use mathlib.Core.Logic.{⊎_elim}
-use Prim.Native.Nat.{ℕ, zero, suc, ◌+◌, ◌≤◌, ◌<◌}
-use native.Mathlib.Nat.{not-suc-le-zero, le_of_suc-le-suc, eq-or-lt_of_le, le_refl, le_antisymm}
+use Prim.Native.Nat.{ℕ, zero, suc, ◌+◌, ◌<◌}
+use native.Mathlib.Nat.{not-suc-le-zero, le_of_suc-le-suc, eq-or-lt_of_le, le_refl}
 use native.Mathlib.Numerals.{add-one}
 use native.Mathlib.Omega.{arith}
-use lib.Dec.{eqb}
-use lib.Bits.{bit_or}
-use borrow.Author.Tests.{not-true, not-false}
-use Rattle.bits.proofs.BitLaws.{or_none}
 use Rattle.table_rows.specs.Choice.{every}
 use Rattle.table_rows.proofs.PickLaws.{and_left, and_right, and_both}
 
@@ -36,11 +33,7 @@ module _ (f : ℕ → Bool) where
       (λ lt. rw (every_fails i n lt e))
       (eq-or-lt_of_le (le_of_suc-le-suc l))
 
-  -- a loop that stops at the first index that fails: none passed yet, one more passed, one failed, all passed
-  pub every_none : every f 0 ≡ true
-  unfolding every
-  every_none = refl
-
+  -- one more index passes, or one fails
   pub every_more : (i : ℕ) → every f i ≡ true → f i ≡ true → every f (i + 1) ≡ true
   unfolding every
   every_more i p q = rw (add-one i) (and_both p q)
@@ -48,17 +41,13 @@ module _ (f : ℕ → Bool) where
   pub every_not : (i n : ℕ) → i < n → f i ≡ false → false ≡ every f n
   every_not i n l e = sym (every_fails i n l e)
 
-  pub every_all : (i n : ℕ) → every f i ≡ true → i ≤ n → n ≤ i → true ≡ every f n
-  every_all i n p l g = sym (rw (le_antisymm l g) at p)
+  -- a search that ends at the first index that fails, or passes them all
+  pub every_is : (b : Bool) (n : ℕ) → (b ≡ true → (i : ℕ) → i < n → f i ≡ true) → (b ≡ false → (i : ℕ) × (i < n) × (f i ≡ false)) → b ≡ every f n
+  every_is true n h g = sym (every_of n (h refl))
+  every_is false n h g = let w = g refl in every_not w.0 n w.1 w.2
 
-  -- the same where the test is `if !f(i) { return false; }`
-  pub every_next : (i : ℕ) → every f i ≡ true → not (f i) ≡ false → every f (i + 1) ≡ true
-  every_next i p e = every_more i p (not-false (f i) e)
-
-  pub every_stop : (i n : ℕ) → i < n → not (f i) ≡ true → false ≡ every f n
-  every_stop i n l e = every_not i n l (not-true (f i) e)
-
-  -- words joined by `|`, 0 so far exactly when f held so far: one more word, whose being 0 is f at i
-  pub joined_next : (seen x i : ℕ) → eqb seen 0 ≡ every f i → eqb x 0 ≡ f i → eqb (bit_or seen x) 0 ≡ every f (i + 1)
+  -- the first index apart
+  pub every_first : (n : ℕ) → every f (suc n) ≡ f 0 && every (λ i. f (suc i)) n
   unfolding every
-  joined_next seen x i e h = rw (add-one i, or_none seen x, e, h)
+  every_first zero = sym (and-true (f 0))
+  every_first (suc n) = rw (every_first n) (and_assoc (f 0) (every (λ i. f (suc i)) n) (f (suc n)))

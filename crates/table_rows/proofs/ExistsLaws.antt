@@ -34,3 +34,8 @@ module _ (f : ℕ → Bool) where
       → exists f n ≡ g
   exists_is n true i h k = exists_of i n (h refl).0 (h refl).1
   exists_is n false i h k = none_of n (λ j l. by_test (f j) (λ e. e ∙ sym (k j l e)) (λ e. e))
+
+  -- a search that ends at the first number that passes, or passes none
+  pub exists_found : (b : Bool) (n : ℕ) → (b ≡ true → (i : ℕ) × (i < n) × (f i ≡ true)) → (b ≡ false → (i : ℕ) → i < n → f i ≡ false) → b ≡ exists f n
+  exists_found true n h g = let w = h refl in sym (exists_of w.0 n w.1 w.2)
+  exists_found false n h g = sym (none_of n (g refl))

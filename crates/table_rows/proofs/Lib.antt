@@ -7,4 +7,3 @@ pub mod RowLaws
 pub mod PartLaws
 pub mod RunLaws
 pub mod ZeroLaws
-pub mod CopyLaws

@@ -1,4 +1,7 @@
-// Tables as rows of `w` words in a lent run of numbers.
+// Tables as rows of `w` words in a lent run of numbers, an argument as in the definitions. Each function asks that its row lies within the
+// run: a type that says so would be made at each call. `clear` and `copy` are the library's `fill` and `copy_from_slice`; they, `clear_row`
+// and `set_word` are public functions with wrong variants of their own. A row that is to be written is cut out where it is used: what lends
+// it would have to say what becomes of the whole.
 #![tactic(auto)]
 
 ghost use Rattle.std.specs.Prelude.{◌≡◌, ◌+◌, ◌*◌, ◌≤◌, ◌<◌, length, set, replicate};
@@ -9,24 +12,14 @@ ghost use Rattle.table_rows.specs.Choice.{all_zero};
 pub fn all_zero(s: &[u64]) -> bool
     ensures { result ≡ all_zero s.now }
 {
-    let mut seen = 0;
-    let mut i = 0;
-    while i < s.len() {
-        seen |= s[i];
-        i += 1;
-    }
-    seen == 0
+    s.iter().fold(0, |seen, word| seen | word) == 0
 }
 
 // Makes each word 0.
 pub fn clear(s: &mut [u64])
     ensures { s.new ≡ replicate (length s.old) 0 }
 {
-    let mut i = 0;
-    while i < s.len() {
-        s[i] = 0;
-        i += 1;
-    }
+    s.fill(0);
 }
 
 // Makes each word of `to` that of `from`.
@@ -34,11 +27,18 @@ pub fn copy(from: &[u64], to: &mut [u64])
     requires { length to.old ≡ length from.now }
     ensures { to.new ≡ from.now }
 {
-    let mut i = 0;
-    while i < to.len() {
-        to[i] = from[i];
-        i += 1;
-    }
+    to.copy_from_slice(from);
+}
+
+// The words of row `i`.
+pub fn row(rows: &[u64], w: usize, i: usize) -> &[u64]
+    requires { i * w + w ≤ length rows.now }
+    ensures words { result.now ≡ row w rows.now i }
+    ensures as_many { length result.now ≡ w }
+{
+    let start = i * w;
+    let end = start + w;
+    &rows[start..end]
 }
 
 // Makes each word of row `i` 0.

@@ -3,6 +3,7 @@ use Prim.Native.Nat.{ℕ, ◌≤◌, ◌<◌}
 use mathlib.Core.List.{List}
 use native.Mathlib.Omega.{arith}
 use lib.ListN.{length}
+use Rattle.std.specs.Option.{unwrap_or}
 use Rattle.remote_commands.specs.Queue.{max_commands}
 use Rattle.monitor_requests.specs.Tables.{Tables}
 use Rattle.monitor_requests.specs.declared.Request.{Request}
@@ -45,6 +46,6 @@ module _ (t : Tables) (effects : List ℕ) where
         }
 
     -- so there is a line at least, and no more than that room
-    pub outcome_printed : (0 < (printed_over (reply_in left) left.effects out).length)
-        × ((printed_over (reply_in left) left.effects out).length ≤ most_printed)
+    pub outcome_printed : (0 < unwrap_or (printed_over (reply_in left) left.effects out).length 0)
+        × (unwrap_or (printed_over (reply_in left) left.effects out).length 0 ≤ most_printed)
     outcome_printed = print_some (reply_in left) left.effects out outcome_printable

@@ -1,4 +1,5 @@
 -- What is printed: its words, and that it fits in the room for it. Assumes nothing.
+use Rattle.std.proofs.Common.{None, Some}
 use Prim.Native.Nat.{ℕ, zero, suc, ◌+◌, ◌*◌, ◌≤◌, ◌<◌}
 use mathlib.Core.Path.{◌≡◌, refl, sym, ap}
 use mathlib.Core.Bool.{true, false, ◌&&◌}
@@ -6,20 +7,21 @@ use mathlib.Core.List.{List, [], ◌∷◌, ◌++◌}
 use native.Mathlib.Nat.{zero-mul, suc-mul}
 use native.Mathlib.Numerals.{add-one}
 use native.Mathlib.Omega.{arith}
-use lib.ListN.{length, take, drop, length-append, length-take}
+use lib.ListN.{length, drop, length-append, length-take}
 use lib.Dec.{leb}
 use borrow.Author.Tests.{leb-true, le-leb}
+use Rattle.std.specs.Prelude.{None, Some}
+use Rattle.std.specs.Option.{unwrap_or}
 use Rattle.error.specs.Error.{done}
 use Rattle.table_rows.specs.Choice.{pick}
 use Rattle.table_rows.specs.Rows.{row, rows_of}
 use Rattle.table_rows.proofs.PickLaws.{and_left, and_right, and_both}
 use Rattle.remote_commands.specs.Queue.{max_commands}
 use Rattle.effects.specs.Effects.{effect_words}
-use Rattle.monitor_requests.specs.declared.Answer.{Answer}
-use Rattle.monitor_requests.specs.declared.Word.TheVariants.{NoWord, Run, Off, Op}
-use Rattle.monitor_requests.specs.Answers.{Given, gives, given, Tells}
+use Rattle.monitor_requests.specs.Answers.{Answered}
+use Rattle.monitor_requests.specs.declared.Word.TheVariants.{Run, Off, Op}
+use Rattle.monitor_requests.specs.Answers.{Given, gives, given}
 use Rattle.monitor_requests.proofs.AnswerLaws.{by_given}
-use Rattle.monitor_requests.specs.declared.Told.{Told}
 use Rattle.monitor_requests.specs.declared.Reply.{Reply}
 use Rattle.trace_text.specs.Text.{bytes, tab, digits, decimal, word, numbers, line, line_end, Put, printing}
 use Rattle.trace_text.proofs.SpelledLaws.{digits_most, numbers_most}
@@ -42,15 +44,15 @@ pub word_did : word 40904 ≡ bytes "did"
 unfolding digits pick
 word_did = refl
 
-pub word_run : tab ∷ word 182114 ≡ word_text Run
+pub word_run : tab ∷ word 182114 ≡ word_text (Some Run)
 unfolding digits pick
 word_run = refl
 
-pub word_off : tab ∷ word 150606 ≡ word_text Off
+pub word_off : tab ∷ word 150606 ≡ word_text (Some Off)
 unfolding digits pick
 word_off = refl
 
-pub word_op : tab ∷ word 1516 ≡ word_text Op
+pub word_op : tab ∷ word 1516 ≡ word_text (Some Op)
 unfolding digits pick
 word_op = refl
 
@@ -71,32 +73,22 @@ unfolding answer_line
 given_length g = omega (arith, line_most (decimal g.number ++ word_text g.word) g.details, length-append (decimal g.number) (word_text g.word))
 
 -- an answer's line with its end
-pub answer_most : (a : Answer) → length (answer_line (given a)) + 1 ≤ answer_bytes
+pub answer_most : (a : Answered) → length (answer_line (given a)) + 1 ≤ answer_bytes
 answer_most =
     by_given (λ (g : Given). length (answer_line g) + 1 ≤ answer_bytes)
-    (λ n. omega (arith, given_length (gives n NoWord []), digits_most 10 48 20 n))
-    (λ value. omega (arith, given_length (gives done NoWord (value ∷ [])), done_digits))
-    (omega (arith, given_length (gives done Run []), done_digits))
-    (omega (arith, given_length (gives done Off []), done_digits))
-    (λ kind x y. omega (arith, given_length (gives done Op (kind ∷ x ∷ y ∷ [])), done_digits))
+    (λ n. omega (arith, given_length (gives n None []), digits_most 10 48 20 n))
+    (λ value. omega (arith, given_length (gives done None (value ∷ [])), done_digits))
+    (omega (arith, given_length (gives done (Some Run) []), done_digits))
+    (omega (arith, given_length (gives done (Some Off) []), done_digits))
+    (λ kind x y. omega (arith, given_length (gives done (Some Op) (kind ∷ x ∷ y ∷ [])), done_digits))
 
--- the line is the number, the word and the details that are told, and what is told fits
-pub told_line : {g : Given} {t : Told} → Tells g t → decimal t.number ++ word_text t.word ++ numbers (take t.count t.details) ≡ answer_line g
+-- its parts, one after another
+pub answer_parts : (a : Answered) → length (decimal (given a).number) + length (word_text (given a).word) + length (numbers (given a).details) + 1 ≤ answer_bytes
 unfolding answer_line
-told_line tells = ap answer_line tells.same
-
-pub told_most : (a : Answer) {t : Told} → Tells (given a) t
-    → length (decimal t.number) + length (word_text t.word) + length (numbers (take t.count t.details)) + 1 ≤ answer_bytes
-told_most a {t} tells =
-    let text = decimal t.number ++ word_text t.word in
-    let ns = numbers (take t.count t.details) in
-    omega (
-      arith,
-      answer_most a,
-      ap length (told_line tells),
-      length-append text ns,
-      length-append (decimal t.number) (word_text t.word),
-    )
+answer_parts a =
+    let g = given a in
+    let text = decimal g.number ++ word_text g.word in
+    omega (arith, answer_most a, length-append text (numbers g.details), length-append (decimal g.number) (word_text g.word))
 
 -- the line of an effect: its numbers, and all of it
 pub record_most : (effects : List ℕ) (i : ℕ) → length (numbers (row effect_words effects i)) ≤ 147
@@ -158,11 +150,11 @@ is_printable a effects out p = and_both (and_both (le-leb _ _ p.few) (le-leb _ _
 module _ (a : Reply) (effects out : List ℕ) where
   -- what is put at the front of the buffer is printed over it, and else nothing
   pub printed_put : {n : ℕ} {after : List ℕ} → printable a effects out ≡ true → Put 0 (printed a effects) out n after
-      → printing n after ≡ printed_over a effects out
+      → printing (Some n) after ≡ printed_over a effects out
   unfolding printed_over
   printed_put e p = print_put (printed a effects) out e p
 
-  pub nothing_put : printable a effects out ≡ false → printing 0 out ≡ printed_over a effects out
+  pub nothing_put : printable a effects out ≡ false → printing None out ≡ printed_over a effects out
   unfolding printed_over
   nothing_put e = print_none (printed a effects) out e
 
@@ -186,6 +178,7 @@ module _ (a : Reply) (effects out : List ℕ) where
       )
 
   -- so a byte or more is printed over the buffer, and no more than the room that is asked for
-  pub print_some : Printable a effects out → (0 < (printed_over a effects out).length) × ((printed_over a effects out).length ≤ most_printed)
+  pub print_some : Printable a effects out
+      → (0 < unwrap_or (printed_over a effects out).length 0) × (unwrap_or (printed_over a effects out).length 0 ≤ most_printed)
   unfolding printed_over pick
   print_some p = rw (is_printable a effects out p) (printed_some, printed_most p.few)

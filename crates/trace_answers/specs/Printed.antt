@@ -1,21 +1,21 @@
 -- What is printed for an answer: a line for each command that was done, then the number, the word and the details.
-use Rattle.std.specs.Prelude.{ℕ, ◌+◌, ◌*◌, Bool, ◌&&◌, List, [], ◌∷◌, ◌++◌, length, leb}
+use Rattle.std.specs.Prelude.{ℕ, ◌+◌, ◌*◌, Bool, ◌&&◌, List, [], ◌∷◌, ◌++◌, length, leb, Option, None, Some}
 use Rattle.table_rows.specs.Rows.{row, rows_of}
 use Rattle.remote_commands.specs.Queue.{max_commands}
 use Rattle.effects.specs.Effects.{effect_words}
 use Rattle.monitor_requests.specs.declared.Word.{Word}
-use Rattle.monitor_requests.specs.declared.Word.TheVariants.{NoWord, Run, Off, Op}
+use Rattle.monitor_requests.specs.declared.Word.TheVariants.{Run, Off, Op}
 use Rattle.monitor_requests.specs.Answers.{Given, given}
 use Rattle.monitor_requests.specs.declared.Reply.{Reply}
 use Rattle.trace_text.specs.Text.{bytes, line_end, decimal, line, printed_in}
 pub use Rattle.trace_text.specs.Text.{Printing, printing}
 
 -- the text of a word, after a tab, or none
-abbrev pub word_text : Word → List ℕ
-word_text NoWord = []
-word_text Run = bytes "\trun"
-word_text Off = bytes "\toff"
-word_text Op = bytes "\top"
+abbrev pub word_text : Option Word → List ℕ
+word_text None = []
+word_text (Some Run) = bytes "\trun"
+word_text (Some Off) = bytes "\toff"
+word_text (Some Op) = bytes "\top"
 
 -- the line of an answer that gives this, without its end: the number, the word and the details
 unfoldable pub answer_line : Given → List ℕ

@@ -1,14 +1,13 @@
 -- When a byte can go on a field, and when there is room for its value: the code's tests against the definitions'. Assumes nothing.
-use Prim.Native.Nat.{ℕ, ◌+◌, ◌-◌, ◌*◌, ◌/◌, ◌^◌, ◌≤◌, ◌<◌}
+use Prim.Native.Nat.{ℕ, ◌+◌, ◌-◌, ◌*◌, ◌^◌, ◌≤◌, ◌<◌}
 use mathlib.Core.Path.{◌≡◌, refl}
 use mathlib.Core.Bool.{Bool, true, false, ◌&&◌, ◌||◌, not}
-use native.Mathlib.Nat.{le-div_iff_mul-le, div-lt_iff_lt-mul}
-use native.Mathlib.Omega.{arith}
 use lib.ListN.{length}
 use lib.Dec.{eqb, leb, ltb}
-use borrow.Author.Tests.{ltb-false, leb-false, not-false}
+use borrow.Author.Tests.{ltb-false, leb-false, not-false, le-leb, lt-leb}
+use Rattle.table_rows.proofs.PickLaws.{yes, no}
 use Rattle.trace_fields.specs.declared.Line.{Line}
-use Rattle.trace_fields.specs.Fields.{cannot_follow, Reading, cannot_end}
+use Rattle.trace_fields.specs.Fields.{spoilt, more, cannot_follow, Reading, cannot_end}
 
 -- none of two tests held
 pub or_no_left : (a b : Bool) → a || b ≡ false → a ≡ false
@@ -46,14 +45,19 @@ module _ (low high : ℕ) (l : Line) (byte : ℕ) (can : cannot_follow low high 
   pub follows_high : byte ≤ high
   follows_high = ltb-false high byte (or_no_right (l.bad || l.begun && eqb l.value 0 || ltb byte low) (ltb high byte) can)
 
--- ---- a value and one digit more, against the highest value
+-- ---- one byte more
 
-module _ {base : ℕ} (some : 0 < base) (v d : ℕ) (small : d < 2 ^ 64) where
-  pub too_high : ((2 ^ 64 - 1) - d) / base < v → 2 ^ 64 ≤ v * base + d
-  too_high l = omega (arith, (div-lt_iff_lt-mul some).0 l)
+module _ (base nought low high : ℕ) (l : Line) (byte : ℕ) (can : cannot_follow low high l byte ≡ false) where
+  -- a value above the highest
+  pub more_high : 2 ^ 64 ≤ l.value * base + (byte - nought) → spoilt ≡ more base nought low high l byte
+  unfolding more
+  more_high above = no _ can (yes _ (le-leb _ _ above) refl)
 
-  pub not_too_high : v ≤ ((2 ^ 64 - 1) - d) / base → v * base + d < 2 ^ 64
-  not_too_high l = omega (arith, (le-div_iff_mul-le some).0 l)
+  -- and one that fits
+  pub more_fits : {v : ℕ} → v < 2 ^ 64 → v ≡ l.value * base + (byte - nought)
+      → record { count = l.count; value = v; begun = true; bad = false } ≡ more base nought low high l byte
+  unfolding more
+  more_fits fits e = rw e (no _ can (no _ (lt-leb _ _ (rw e at fits)) refl))
 
 -- ---- a field that can end
 

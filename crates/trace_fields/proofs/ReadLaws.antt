@@ -1,11 +1,9 @@
 -- A byte more and the end of a field, case by case, and a text that is read part by part. Assumes nothing.
-use Prim.Native.Nat.{ℕ, ◌+◌, ◌≤◌, ◌<◌}
-use mathlib.Core.Path.{◌≡◌, refl, sym, ap, ◌∙◌}
+use Prim.Native.Nat.{ℕ, ◌+◌}
+use mathlib.Core.Path.{◌≡◌, refl, sym}
 use mathlib.Core.Bool.{true, false}
 use mathlib.Core.List.{List, [], ◌∷◌, ◌++◌}
-use native.Mathlib.Numerals.{add-one}
-use lib.ListN.{length, drop, set, get_or, drop_of_length-le}
-use lib.Seq.{drop-cons}
+use lib.ListN.{set}
 use lib.Dec.{eqb}
 use Rattle.table_rows.proofs.PickLaws.{yes, no}
 use Rattle.trace_text.specs.Text.{tab}
@@ -56,12 +54,3 @@ fed_digit x byte e q = sym (no _ e (no _ q refl))
 pub read_parts : (x : Reading) (a b : List ℕ) → read_on x (a ++ b) ≡ read_on (read_on x a) b
 read_parts x [] b = refl
 read_parts x (byte ∷ a) b = read_parts (fed x byte) a b
-
--- a loop that reads byte by byte: one more, and all
-pub read_next : (x : Reading) (text : List ℕ) (i : ℕ) → i < length text
-    → read_on (fed x (get_or text i 0)) (drop (i + 1) text) ≡ read_on x (drop i text)
-read_next x text i l =
-    ap (λ (n : ℕ). read_on (fed x (get_or text i 0)) (drop n text)) (add-one i) ∙ ap (read_on x) (sym (drop-cons text i 0 l))
-
-pub read_all : (x : Reading) (text : List ℕ) (i : ℕ) → length text ≤ i → x ≡ read_on x (drop i text)
-read_all x text i l = sym (ap (read_on x) (drop_of_length-le text l))

@@ -13,7 +13,7 @@ use Rattle.trace_text.specs.Text.{tab, digits, decimal, word, numbers, line}
 use Rattle.trace_text.proofs.DigitLaws.{digits_one, digits_more}
 use Rattle.trace_fields.specs.Fields.{start, Reading, reading, cannot_end, closed, fed, read_on, fields_in}
 use Rattle.trace_fields.proofs.ReadLaws.{closed_spoilt, closed_ended, fed_tab, fed_letter, fed_digit}
-use Rattle.trace_fields.proofs.SoundLaws.{sound, count_placed, fields_counted}
+use Rattle.trace_fields.proofs.SoundLaws.{sound, fields_placed, fields_counted}
 
 -- ---- a line has one tab for each number
 
@@ -70,7 +70,7 @@ read_length x (byte ∷ text) = read_length (fed x byte) text ∙ fed_length x b
 
 -- no more fields than room
 pub fields_fit : (x : Reading) → length (fields_in x) ≤ length x.fields
-fields_fit x = omega (arith, fields_counted x, count_placed x refl refl, closed_length x)
+fields_fit x = omega (arith, fields_counted x, fields_placed x, closed_length x)
 
 pub too_many : (room : List ℕ) (w : ℕ) (ns : List ℕ) → length room < length (w ∷ ns)
     → fields_in (read_on (reading start room) (line (word w) ns)) ≡ []

@@ -10,6 +10,7 @@ use lib.ListN.{length, take, set, length-take, length-set}
 use lib.Seq.{take-suc-set, length-take-le}
 use lib.Dec.{eqb, leb, ltb, lit≤}
 use borrow.Author.Tests.{lt-ltb, eqb-true, eqb-false, leb-false, not-true}
+use Rattle.std.specs.Prelude.{None, Some}
 use Rattle.table_rows.specs.Choice.{pick}
 use Rattle.table_rows.specs.Lists.{all_of}
 use Rattle.table_rows.proofs.PickLaws.{yes, no, by_test, and_left, and_right, and_both}
@@ -17,7 +18,7 @@ use Rattle.table_rows.proofs.ListLaws.{all_last}
 use Rattle.trace_text.specs.Text.{tab, spelled}
 use Rattle.trace_text.proofs.DigitLaws.{digits_one, spelled_next}
 use Rattle.trace_fields.specs.declared.Line.{Line}
-use Rattle.trace_fields.specs.Fields.{start, spoilt, cannot_follow, more, Reading, reading, cannot_end, closed, fed, read_on, field_count, fields_in, is_empty}
+use Rattle.trace_fields.specs.Fields.{start, spoilt, cannot_follow, more, Reading, reading, cannot_end, closed, fed, read_on, field_count, counted, fields_in, is_empty}
 use Rattle.trace_fields.proofs.FieldLaws.{follows_good, follows_no_zero, follows_low, follows_high, ends_good, ends_begun, ends_placed}
 use Rattle.trace_fields.proofs.ReadLaws.{got, ended, fed_tab, fed_letter, fed_digit, closed_spoilt, closed_ended}
 use Rattle.trace_fields.proofs.SpellingLaws.{spelt, lead, field, spelt_last, lead_last}
@@ -279,9 +280,29 @@ fields_counted x =
     (length-take-le (x.line.count + 1) (set x.fields x.line.count x.line.value)
     (rw (length-set x.fields x.line.count x.line.value) (omega (arith, e.place)))))
 
--- what `end` gives: a number of fields, and the room where they stand
-pub count_placed : (x : Reading) {n : ℕ} {fields : List ℕ} → n ≡ field_count x → fields ≡ (closed x).fields → n ≤ length fields
-count_placed x p q = rw (p, q) (omega (arith, fields_counted x, length-take (field_count x) (closed x).fields))
+-- what `end` gives: nothing of a line in no form, which has no fields
+pub counted_none : (x : Reading) → None ≡ counted (closed x) → fields_in x ≡ []
+unfolding pick
+counted_none x e =
+    by_test (cannot_end x) (λ q. ap before (closed_spoilt x q))
+    (λ q. let some : None ≡ Some (x.line.count + 1) = e ∙ ap counted (closed_ended x q) in cc)
+
+-- and else their number
+pub counted_some : (x : Reading) {n : ℕ} → Some n ≡ counted (closed x) → n ≡ field_count x
+unfolding pick
+counted_some x {n} e =
+    by_test (cannot_end x) (λ q. let none : Some n ≡ None = e ∙ ap counted (closed_spoilt x q) in cc)
+    (λ q.
+    let some : Some n ≡ Some (x.line.count + 1) = e ∙ ap counted (closed_ended x q) in
+    let same : n ≡ x.line.count + 1 = cc in
+    same ∙ sym (ap (λ (y : Reading). y.line.count) (closed_ended x q)))
+
+-- they stand in the room
+pub fields_placed : (x : Reading) → field_count x ≤ length (closed x).fields
+fields_placed x = omega (arith, fields_counted x, length-take (field_count x) (closed x).fields)
+
+pub count_placed : (x : Reading) {n : ℕ} {fields : List ℕ} → Some n ≡ counted (closed x) → fields ≡ (closed x).fields → n ≤ length fields
+count_placed x p q = rw (counted_some x p, q) (fields_placed x)
 
 -- a line of which nothing was read has no text
 pub nothing_read : (room text : List ℕ) → is_empty (read_on (reading start room) text).line ≡ true → text ≡ []

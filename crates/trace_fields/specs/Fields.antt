@@ -1,5 +1,5 @@
 -- A line read byte by byte into its fields: a word and numbers, parted by tabs.
-use Rattle.std.specs.Prelude.{ℕ, ◌+◌, ◌-◌, ◌*◌, ◌^◌, Bool, true, false, ◌&&◌, ◌||◌, not, List, [], ◌∷◌, length, take, set, eqb, leb, ltb}
+use Rattle.std.specs.Prelude.{ℕ, ◌+◌, ◌-◌, ◌*◌, ◌^◌, Bool, true, false, ◌&&◌, ◌||◌, not, Option, None, Some, List, [], ◌∷◌, length, take, set, eqb, leb, ltb}
 use Rattle.table_rows.specs.Choice.{pick}
 use Rattle.trace_text.specs.Text.{tab}
 use Rattle.trace_fields.specs.declared.Line.{Line}
@@ -73,6 +73,10 @@ read_on x (byte ∷ text) = read_on (fed x byte) text
 -- how many fields a line has at its end; 0 for a line in no form
 abbrev pub field_count : Reading → ℕ
 field_count x = (closed x).line.count
+
+-- the same of a line that was ended, and nothing of a line in no form
+abbrev pub counted : Reading → Option ℕ
+counted x = pick x.line.bad None (Some x.line.count)
 
 -- those fields
 abbrev pub fields_in : Reading → List ℕ

@@ -6,12 +6,11 @@ use mathlib.Core.List.{List}
 use native.Mathlib.Omega.{arith}
 use lib.ListN.{length}
 use borrow.Author.Tests.{le-leb, lt-leb}
+use Rattle.std.specs.Prelude.{Option, None, Some}
 use Rattle.trace_text.specs.Text.{word, numbers, line, Put, printing}
 use Rattle.trace_text.proofs.SpelledLaws.{digits_short, numbers_most}
 use Rattle.trace_text.proofs.WriteLaws.{put_as, print_put, print_none}
 use Rattle.trace_requests.specs.declared.TraceLine.{TraceLine}
-use Rattle.trace_requests.specs.declared.Parsed.{Parsed}
-use Rattle.trace_requests.specs.declared.Parsed.TheVariants.{Read}
 use Rattle.trace_requests.specs.Lines.{spelling, line_of, fit, Reads}
 use Rattle.trace_requests.specs.FieldRequests.{key}
 use Rattle.trace_requests.proofs.LineLaws.{key_word}
@@ -34,15 +33,15 @@ line_most w ns short few = omega (arith, word_most w short, numbers_most ns)
 -- ---- the whole
 
 -- a line that is rendered is read as its request
-pub read_back : (r : TraceLine) (p : Parsed) → fit (spelling r).numbers ≡ true → Reads (line_of r) p → p ≡ Read r
+pub read_back : (r : TraceLine) (p : Option TraceLine) → fit (spelling r).numbers ≡ true → Reads (line_of r) p → p ≡ Some r
 read_back r p fits reads = (reads r).1 (fits, refl)
 
 -- the line of a request that was put at the front is rendered, and else nothing
 module _ (r : TraceLine) (out : List ℕ) where
-  pub line_put : {n : ℕ} {after : List ℕ} → most_rendered ≤ length out → Put 0 (line_of r) out n after → printing n after ≡ rendered_over r out
+  pub line_put : {n : ℕ} {after : List ℕ} → most_rendered ≤ length out → Put 0 (line_of r) out n after → printing (Some n) after ≡ rendered_over r out
   unfolding rendered_over
   line_put l p = print_put (line_of r) out (le-leb most_rendered (length out) l) p
 
-  pub nothing_put : length out < most_rendered → printing 0 out ≡ rendered_over r out
+  pub nothing_put : length out < most_rendered → printing None out ≡ rendered_over r out
   unfolding rendered_over
   nothing_put l = print_none (line_of r) out (lt-leb most_rendered (length out) l)

@@ -1,14 +1,14 @@
-// A request as a line of a trace.
+// A request as a line of a trace. What writes a part of a line asks for the room of the longest line, which `render` tests once.
 #![tactic(auto)]
 
-ghost use Rattle.std.specs.Prelude.{◌≡◌, [], ◌∷◌, ◌^◌, ◌≤◌, ◌<◌, length};
+ghost use Rattle.std.specs.Prelude.{◌≡◌, ◌∷◌, ◌^◌, ◌≤◌, ◌<◌, length};
 ghost use Rattle.confidential_hart_remote_command.specs.Command.{to_words};
 ghost use Rattle.trace_text.specs.Text.{word, line, Put, printing};
 ghost use Rattle.trace_requests.specs.Lines.{line_of};
 ghost use Rattle.trace_rendering.specs.Rendered.{most_rendered, rendered_over};
 
 use confidential_hart_remote_command::ConfidentialHartRemoteCommand;
-use monitor_requests::{Request, Setup};
+use monitor_requests::Request;
 use trace_requests::TraceLine;
 
 // The most bytes of a line without its end.
@@ -23,22 +23,6 @@ fn put_line(key: u64, numbers: &[u64], out: &mut [u8]) -> usize
     trace_text::put_numbers(numbers, place, out)
 }
 
-// Writes a word and one number.
-fn put_one(key: u64, a: u64, out: &mut [u8]) -> usize
-    requires { (key < 100 ^ 9) × (most_rendered ≤ length out.old) }
-    ensures { Put 0 (line (word key) (a ∷ [])) out.old result out.new }
-{
-    put_line(key, &[a], out)
-}
-
-// Writes a word and two numbers.
-fn put_two(key: u64, a: u64, b: u64, out: &mut [u8]) -> usize
-    requires { (key < 100 ^ 9) × (most_rendered ≤ length out.old) }
-    ensures { Put 0 (line (word key) (a ∷ b ∷ [])) out.old result out.new }
-{
-    put_line(key, &[a, b], out)
-}
-
 // Writes a word and the numbers of a command behind another.
 fn put_command(key: u64, first: u64, c: ConfidentialHartRemoteCommand, out: &mut [u8]) -> usize
     requires { (key < 100 ^ 9) × (most_rendered ≤ length out.old) }
@@ -48,49 +32,38 @@ fn put_command(key: u64, first: u64, c: ConfidentialHartRemoteCommand, out: &mut
     put_line(key, &numbers, out)
 }
 
-// Writes the line of a setup.
-fn put_setup(s: Setup, out: &mut [u8]) -> usize
-    requires { most_rendered ≤ length out.old }
-    ensures { Put 0 (line_of (TraceLine.SetUp s)) out.old result out.new }
-{
-    let numbers = [
-        s.harts, s.hardware, s.boot, s.a1, s.mepc, s.vsatp, s.vsstatus,
-    ];
-    put_line(trace_requests::SETUP, &numbers, out)
-}
-
 // Writes the line of a request.
 fn put_request(request: Request, out: &mut [u8]) -> usize
     requires { most_rendered ≤ length out.old }
     ensures { Put 0 (line_of (TraceLine.Ask request)) out.old result out.new }
 {
     match request {
-        Request::Steal(hart, on) => put_two(trace_requests::STEAL, hart.0, on.0, out),
-        Request::Return(on) => put_one(trace_requests::RETURN, on.0, out),
+        Request::Steal(hart, on) => put_line(trace_requests::STEAL, &[hart.0, on.0], out),
+        Request::Return(on) => put_line(trace_requests::RETURN, &[on.0], out),
         Request::Start(hart, address, opaque) => put_line(
             trace_requests::START,
             &[hart.0, address, opaque],
             out,
         ),
-        Request::Suspend(on) => put_one(trace_requests::SUSPEND, on.0, out),
-        Request::Stop(on) => put_one(trace_requests::STOP, on.0, out),
+        Request::Suspend(on) => put_line(trace_requests::SUSPEND, &[on.0], out),
+        Request::Stop(on) => put_line(trace_requests::STOP, &[on.0], out),
         Request::Wake(on, address, opaque) => put_line(
             trace_requests::WAKE,
             &[on.0, address, opaque],
             out,
         ),
-        Request::Off(on) => put_one(trace_requests::OFF, on.0, out),
+        Request::Off(on) => put_line(trace_requests::OFF, &[on.0], out),
         Request::Await(on, kind, x, y) => put_line(trace_requests::AWAIT, &[on.0, kind, x, y], out),
-        Request::Status(hart) => put_one(trace_requests::STATUS, hart.0, out),
+        Request::Status(hart) => put_line(trace_requests::STATUS, &[hart.0], out),
         Request::Home => put_line(trace_requests::HOME, &[], out),
         Request::Send(sender, c) => put_command(trace_requests::SEND, sender, c, out),
-        Request::Allow(bits) => put_one(trace_requests::ALLOW, bits, out),
-        Request::Add(base, size) => put_two(trace_requests::ADD, base, size, out),
-        Request::Remove(base, size) => put_two(trace_requests::REMOVE, base, size, out),
-        Request::Defined(base, size) => put_two(trace_requests::DEFINED, base, size, out),
+        Request::Allow(bits) => put_line(trace_requests::ALLOW, &[bits], out),
+        Request::Add(base, size) => put_line(trace_requests::ADD, &[base, size], out),
+        Request::Remove(base, size) => put_line(trace_requests::REMOVE, &[base, size], out),
+        Request::Defined(base, size) => put_line(trace_requests::DEFINED, &[base, size], out),
         Request::Broadcast(on, c) => put_command(trace_requests::BROADCAST, on.0, c, out),
-        Request::Process(on) => put_one(trace_requests::PROCESS, on.0, out),
-        Request::Resume(on) => put_one(trace_requests::RESUME, on.0, out),
+        Request::Process(on) => put_line(trace_requests::PROCESS, &[on.0], out),
+        Request::Resume(on) => put_line(trace_requests::RESUME, &[on.0], out),
     }
 }
 
@@ -100,17 +73,23 @@ fn put_trace_line(line: TraceLine, out: &mut [u8]) -> usize
     ensures { Put 0 (line_of line) out.old result out.new }
 {
     match line {
-        TraceLine::SetUp(s) => put_setup(s, out),
-        TraceLine::Ask(r) => put_request(r, out),
+        TraceLine::SetUp(s) => {
+            let numbers = [
+                s.harts, s.hardware, s.boot, s.a1, s.mepc, s.vsatp, s.vsstatus,
+            ];
+            put_line(trace_requests::SETUP, &numbers, out)
+        }
+        TraceLine::Ask(request) => put_request(request, out),
     }
 }
 
-// Writes a line of a trace over the front of `out`, without its end, and gives how many bytes that are: none where there is too little room.
-pub fn render(line: TraceLine, out: &mut [u8]) -> usize
+// Writes a line of a trace over the front of `out`, without its end, and gives how many bytes that are. With too little room nothing is
+// written.
+pub fn render(line: TraceLine, out: &mut [u8]) -> Option<usize>
     ensures { printing result out.new ≡ rendered_over line out.old }
 {
     if out.len() < MOST_RENDERED {
-        return 0;
+        return None;
     }
-    put_trace_line(line, out)
+    Some(put_trace_line(line, out))
 }

@@ -12,8 +12,7 @@ use Rattle.trace_fields.specs.Fields.{start, Reading, reading, read_on, fields_i
 use Rattle.trace_fields.proofs.SoundLaws.{low64, sound}
 use Rattle.trace_fields.proofs.CompleteLaws.{complete}
 use Rattle.trace_requests.specs.declared.TraceLine.{TraceLine}
-use Rattle.trace_requests.specs.declared.Parsed.{Parsed}
-use Rattle.trace_requests.specs.declared.Parsed.TheVariants.{Read, BadLine}
+use Rattle.std.specs.Prelude.{Option, Some, None}
 use Rattle.trace_requests.specs.Lines.{spelling, Renders, Reads}
 use Rattle.trace_requests.specs.FieldRequests.{key, fields_of, Tells, max_fields, request_of}
 use Rattle.trace_requests.proofs.FieldRequestLaws.{fair, tells}
@@ -42,24 +41,24 @@ module _ (room : List ℕ) (long : max_fields ≤ length room) (text : List ℕ)
       ∙ complete room (key r) ns (ap (read_on (reading start room)) f.word_own ∙ f.word_read room) h.0 (omega (arith, f.few))
 
   -- what is told of the fields of a line is what its text is read as
-  pub reads_line : {p : Parsed} → Tells (fields_in (read_on (reading start room) text)) p → Reads text p
+  pub reads_line : {p : Option TraceLine} → Tells (fields_in (read_on (reading start room) text)) p → Reads text p
   reads_line t r = (λ e. fields_line r ((t r).0 e), λ h. (t r).1 (line_fields r h))
 
   -- the same of a line that was read from the start on
-  pub reads_read : {l : Line} {x : Reading} {p : Parsed} → l ≡ start → x ≡ read_on (reading l room) text → Tells (fields_in x) p
+  pub reads_read : {l : Line} {x : Reading} {p : Option TraceLine} → l ≡ start → x ≡ read_on (reading l room) text → Tells (fields_in x) p
       → Reads text p
   reads_read {l} {x} {p} first e t =
       reads_line (subst (λ (y : Reading). Tells (fields_in y) p) (e ∙ ap (λ (m : Line). read_on (reading m room) text) first) t)
 
 -- ---- a text has one reading, and a line one request
 
-pub reads_once : (text : List ℕ) (p q : Parsed) → Reads text p → Reads text q → p ≡ q
-reads_once text (Read r) q f g = sym ((g r).1 ((f r).0 refl))
-reads_once text BadLine (Read r) f g = (f r).1 ((g r).0 refl)
-reads_once text BadLine BadLine f g = refl
+pub reads_once : (text : List ℕ) (p q : Option TraceLine) → Reads text p → Reads text q → p ≡ q
+reads_once text (Some r) q f g = sym ((g r).1 ((f r).0 refl))
+reads_once text None (Some r) f g = (f r).1 ((g r).0 refl)
+reads_once text None None f g = refl
 
 -- what a text is read as
-abbrev pub reading_of : List ℕ → Parsed
+abbrev pub reading_of : List ℕ → Option TraceLine
 reading_of text = request_of (fields_in (read_on (reading start (replicate max_fields 0)) text))
 
 pub reading_of_lem : (text : List ℕ) → Reads text (reading_of text)
@@ -70,7 +69,7 @@ reading_of_lem text =
 -- requests with the same line are the same
 pub line_once : (text : List ℕ) (r s : TraceLine) → Renders text r → Renders text s → r ≡ s
 line_once text r s f g =
-    let p : reading_of text ≡ Read r = (reading_of_lem text r).1 f in
-    let q : reading_of text ≡ Read s = (reading_of_lem text s).1 g in
-    let same : Read r ≡ Read s = sym p ∙ q in
+    let p : reading_of text ≡ Some r = (reading_of_lem text r).1 f in
+    let q : reading_of text ≡ Some s = (reading_of_lem text s).1 g in
+    let same : Some r ≡ Some s = sym p ∙ q in
     cc

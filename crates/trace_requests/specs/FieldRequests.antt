@@ -6,8 +6,7 @@ use Rattle.monitor_requests.specs.declared.Request.TheVariants.{Steal, Return, S
 use Rattle.trace_text.specs.Text.{bytes}
 use Rattle.trace_requests.specs.declared.TraceLine.{TraceLine}
 use Rattle.trace_requests.specs.declared.TraceLine.TheVariants.{SetUp, Ask}
-use Rattle.trace_requests.specs.declared.Parsed.{Parsed}
-use Rattle.trace_requests.specs.declared.Parsed.TheVariants.{Read, BadLine}
+use Rattle.std.specs.Prelude.{Option, Some, None}
 use Rattle.trace_requests.specs.Lines.{spelling}
 
 -- letters as one number, two decimal digits for each: a is 01, z is 26
@@ -24,8 +23,8 @@ abbrev pub fields_of : TraceLine → List ℕ
 fields_of r = key r ∷ (spelling r).numbers
 
 -- fields are those of request r exactly when they are read as r
-abbrev pub Tells : List ℕ → Parsed → Type 0
-Tells fields p = (r : TraceLine) → (p ≡ Read r → fields ≡ fields_of r) × (fields ≡ fields_of r → p ≡ Read r)
+abbrev pub Tells : List ℕ → Option TraceLine → Type 0
+Tells fields p = (r : TraceLine) → (p ≡ Some r → fields ≡ fields_of r) × (fields ≡ fields_of r → p ≡ Some r)
 
 -- a line of a request has at most so many fields
 abbrev pub max_fields : ℕ
@@ -34,16 +33,16 @@ max_fields = 8
 -- ---- the same, as the code goes: by the number of fields, then by the word
 
 -- the first of the requests whose word is w
-abbrev pub first : ℕ → List TraceLine → Parsed
-first w [] = BadLine
-first w (r ∷ rs) = pick (eqb w (key r)) (Read r) (first w rs)
+abbrev pub first : ℕ → List TraceLine → Option TraceLine
+first w [] = None
+first w (r ∷ rs) = pick (eqb w (key r)) (Some r) (first w rs)
 
 -- the requests of no number
-unfoldable pub of_none : List TraceLine
+abbrev pub of_none : List TraceLine
 of_none = Ask Home ∷ []
 
 -- of one
-unfoldable pub of_one : ℕ → List TraceLine
+abbrev pub of_one : ℕ → List TraceLine
 of_one a =
     Ask (Return (hardware_hart_id a))
     ∷ Ask (Suspend (hardware_hart_id a))
@@ -56,31 +55,31 @@ of_one a =
     ∷ []
 
 -- of two
-unfoldable pub of_two : ℕ → ℕ → List TraceLine
+abbrev pub of_two : ℕ → ℕ → List TraceLine
 of_two a b = Ask (Steal (hart_id a) (hardware_hart_id b)) ∷ Ask (Add a b) ∷ Ask (Remove a b) ∷ Ask (Defined a b) ∷ []
 
 -- of three
-unfoldable pub of_three : ℕ → ℕ → ℕ → List TraceLine
+abbrev pub of_three : ℕ → ℕ → ℕ → List TraceLine
 of_three a b c = Ask (Start (hart_id a) b c) ∷ Ask (Wake (hardware_hart_id a) b c) ∷ []
 
 -- of four
-unfoldable pub of_four : ℕ → ℕ → ℕ → ℕ → List TraceLine
+abbrev pub of_four : ℕ → ℕ → ℕ → ℕ → List TraceLine
 of_four a b c d = Ask (Await (hardware_hart_id a) b c d) ∷ []
 
 -- of seven
-unfoldable pub of_seven : ℕ → ℕ → ℕ → ℕ → ℕ → ℕ → ℕ → List TraceLine
+abbrev pub of_seven : ℕ → ℕ → ℕ → ℕ → ℕ → ℕ → ℕ → List TraceLine
 of_seven a b c d e f g =
     SetUp (setup_of a b c d e f g) ∷ Ask (Send a (command_of b c d e f g)) ∷ Ask (Broadcast (hardware_hart_id a) (command_of b c d e f g)) ∷ []
 
 -- the request of fields
-unfoldable pub request_of : List ℕ → Parsed
-request_of [] = BadLine
+unfoldable pub request_of : List ℕ → Option TraceLine
+request_of [] = None
 request_of (w ∷ []) = first w of_none
 request_of (w ∷ a ∷ []) = first w (of_one a)
 request_of (w ∷ a ∷ b ∷ []) = first w (of_two a b)
 request_of (w ∷ a ∷ b ∷ c ∷ []) = first w (of_three a b c)
 request_of (w ∷ a ∷ b ∷ c ∷ d ∷ []) = first w (of_four a b c d)
-request_of (w ∷ a ∷ b ∷ c ∷ d ∷ e ∷ []) = BadLine
-request_of (w ∷ a ∷ b ∷ c ∷ d ∷ e ∷ f ∷ []) = BadLine
+request_of (w ∷ a ∷ b ∷ c ∷ d ∷ e ∷ []) = None
+request_of (w ∷ a ∷ b ∷ c ∷ d ∷ e ∷ f ∷ []) = None
 request_of (w ∷ a ∷ b ∷ c ∷ d ∷ e ∷ f ∷ g ∷ []) = first w (of_seven a b c d e f g)
-request_of (w ∷ a ∷ b ∷ c ∷ d ∷ e ∷ f ∷ g ∷ h ∷ more) = BadLine
+request_of (w ∷ a ∷ b ∷ c ∷ d ∷ e ∷ f ∷ g ∷ h ∷ more) = None

@@ -7,8 +7,7 @@ use Rattle.monitor_requests.specs.declared.Request.TheVariants.{Steal, Return, S
 use Rattle.trace_text.specs.Text.{bytes, line}
 use Rattle.trace_requests.specs.declared.TraceLine.{TraceLine}
 use Rattle.trace_requests.specs.declared.TraceLine.TheVariants.{SetUp, Ask}
-use Rattle.trace_requests.specs.declared.Parsed.{Parsed}
-use Rattle.trace_requests.specs.declared.Parsed.TheVariants.{Read}
+use Rattle.std.specs.Prelude.{Option, Some}
 
 -- a word and the numbers that follow it
 pub record Spelling : Type 0 where
@@ -55,5 +54,5 @@ abbrev pub Renders : List ℕ → TraceLine → Type 0
 Renders text r = (fit (spelling r).numbers ≡ true) × (text ≡ line_of r)
 
 -- a text is read as request r exactly when it is the line of r
-abbrev pub Reads : List ℕ → Parsed → Type 0
-Reads text p = (r : TraceLine) → (p ≡ Read r → Renders text r) × (Renders text r → p ≡ Read r)
+abbrev pub Reads : List ℕ → Option TraceLine → Type 0
+Reads text p = (r : TraceLine) → (p ≡ Some r → Renders text r) × (Renders text r → p ≡ Some r)

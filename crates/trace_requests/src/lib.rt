@@ -1,5 +1,5 @@
 // A line of a trace and its request.
-#![tactic(auto)]
+#![tactic(auto, using(crate::proofs::FieldRequestLaws::by_word_lem), unfolding(crate::specs::Lines::spelling))]
 
 ghost use Rattle.std.specs.Prelude.{◌≡◌};
 ghost use Rattle.trace_fields.specs.Fields.{reading, closed, fields_in};
@@ -11,7 +11,8 @@ use confidential_hart_remote_command::ConfidentialHartRemoteCommand;
 use monitor_requests::{Request, Setup};
 use trace_fields::Line;
 
-// The words of the requests, each as one number: two decimal digits for a letter, of which a is 01.
+// The words of the requests, each as one number: two decimal digits for a letter, of which a is 01. A line may have any length and there is no
+// heap, so a number is all that is kept of a word.
 pub const SETUP: u64 = 19_05_20_21_16;
 
 pub const STEAL: u64 = 19_20_05_01_12;
@@ -60,118 +61,84 @@ pub enum TraceLine {
     Ask(Request),
 }
 
-// What a text says: a line of a trace, or nothing that is one.
-#[derive(Clone, Copy)]
-pub enum Parsed {
-    Read(TraceLine),
-    BadLine,
-}
-
-// The line of a request.
-fn ask(request: Request) -> Parsed
-    ensures { result ≡ Parsed.Read (TraceLine.Ask request) }
-{
-    Parsed::Read(TraceLine::Ask(request))
-}
-
-// The request of a word that no number follows.
-fn of_none(word: u64) -> Parsed
+// The line of a word that no number follows.
+fn of_none(word: u64) -> Option<TraceLine>
     ensures { result ≡ first word of_none }
 {
-    if word == HOME {
-        return ask(Request::Home);
+    match word {
+        HOME => Some(TraceLine::Ask(Request::Home)),
+        _ => None,
     }
-    Parsed::BadLine
 }
 
-// The request of a word and one number.
-fn of_one(word: u64, a: u64) -> Parsed
+// The line of a word and one number.
+fn of_one(word: u64, a: u64) -> Option<TraceLine>
     ensures { result ≡ first word (of_one a) }
 {
-    if word == RETURN {
-        return ask(Request::Return(HardwareHartId(a)));
-    }
-    if word == SUSPEND {
-        return ask(Request::Suspend(HardwareHartId(a)));
-    }
-    if word == STOP {
-        return ask(Request::Stop(HardwareHartId(a)));
-    }
-    if word == OFF {
-        return ask(Request::Off(HardwareHartId(a)));
-    }
-    if word == STATUS {
-        return ask(Request::Status(ConfidentialHartId(a)));
-    }
-    if word == PROCESS {
-        return ask(Request::Process(HardwareHartId(a)));
-    }
-    if word == RESUME {
-        return ask(Request::Resume(HardwareHartId(a)));
-    }
-    if word == ALLOW {
-        return ask(Request::Allow(a));
-    }
-    Parsed::BadLine
+    let on = HardwareHartId(a);
+    let request = match word {
+        RETURN => Request::Return(on),
+        SUSPEND => Request::Suspend(on),
+        STOP => Request::Stop(on),
+        OFF => Request::Off(on),
+        STATUS => Request::Status(ConfidentialHartId(a)),
+        PROCESS => Request::Process(on),
+        RESUME => Request::Resume(on),
+        ALLOW => Request::Allow(a),
+        _ => return None,
+    };
+    Some(TraceLine::Ask(request))
 }
 
-// The request of a word and two numbers.
-fn of_two(word: u64, a: u64, b: u64) -> Parsed
+// The line of a word and two numbers.
+fn of_two(word: u64, a: u64, b: u64) -> Option<TraceLine>
     ensures { result ≡ first word (of_two a b) }
 {
-    if word == STEAL {
-        return ask(Request::Steal(ConfidentialHartId(a), HardwareHartId(b)));
-    }
-    if word == ADD {
-        return ask(Request::Add(a, b));
-    }
-    if word == REMOVE {
-        return ask(Request::Remove(a, b));
-    }
-    if word == DEFINED {
-        return ask(Request::Defined(a, b));
-    }
-    Parsed::BadLine
+    let request = match word {
+        STEAL => Request::Steal(ConfidentialHartId(a), HardwareHartId(b)),
+        ADD => Request::Add(a, b),
+        REMOVE => Request::Remove(a, b),
+        DEFINED => Request::Defined(a, b),
+        _ => return None,
+    };
+    Some(TraceLine::Ask(request))
 }
 
-// The request of a word and three numbers.
-fn of_three(word: u64, a: u64, b: u64, c: u64) -> Parsed
+// The line of a word and three numbers.
+fn of_three(word: u64, a: u64, b: u64, c: u64) -> Option<TraceLine>
     ensures { result ≡ first word (of_three a b c) }
 {
-    if word == START {
-        return ask(Request::Start(ConfidentialHartId(a), b, c));
-    }
-    if word == WAKE {
-        return ask(Request::Wake(HardwareHartId(a), b, c));
-    }
-    Parsed::BadLine
+    let request = match word {
+        START => Request::Start(ConfidentialHartId(a), b, c),
+        WAKE => Request::Wake(HardwareHartId(a), b, c),
+        _ => return None,
+    };
+    Some(TraceLine::Ask(request))
 }
 
-// The request of a word and four numbers.
-fn of_four(word: u64, a: u64, b: u64, c: u64, d: u64) -> Parsed
+// The line of a word and four numbers.
+fn of_four(word: u64, a: u64, b: u64, c: u64, d: u64) -> Option<TraceLine>
     ensures { result ≡ first word (of_four a b c d) }
 {
-    if word == AWAIT {
-        return ask(Request::Await(HardwareHartId(a), b, c, d));
+    match word {
+        AWAIT => Some(TraceLine::Ask(Request::Await(HardwareHartId(a), b, c, d))),
+        _ => None,
     }
-    Parsed::BadLine
 }
 
-// The request of a word and seven numbers.
-fn of_seven(word: u64, a: u64, b: u64, c: u64, d: u64, e: u64, f: u64, g: u64) -> Parsed
+// The line of a word and seven numbers.
+fn of_seven(word: u64, a: u64, b: u64, c: u64, d: u64, e: u64, f: u64, g: u64) -> Option<TraceLine>
     ensures { result ≡ first word (of_seven a b c d e f g) }
 {
-    if word == SETUP {
-        return Parsed::Read(TraceLine::SetUp(Setup {
-            harts: a,
-            hardware: b,
-            boot: c,
-            a1: d,
-            mepc: e,
-            vsatp: f,
-            vsstatus: g,
-        }));
-    }
+    let setup = Setup {
+        harts: a,
+        hardware: b,
+        boot: c,
+        a1: d,
+        mepc: e,
+        vsatp: f,
+        vsstatus: g,
+    };
     let command = ConfidentialHartRemoteCommand {
         kind: b,
         mask: c,
@@ -180,54 +147,42 @@ fn of_seven(word: u64, a: u64, b: u64, c: u64, d: u64, e: u64, f: u64, g: u64) -
         size: f,
         tag: g,
     };
-    if word == SEND {
-        return ask(Request::Send(a, command));
-    }
-    if word == BROADCAST {
-        return ask(Request::Broadcast(HardwareHartId(a), command));
-    }
-    Parsed::BadLine
+    let line = match word {
+        SETUP => TraceLine::SetUp(setup),
+        SEND => TraceLine::Ask(Request::Send(a, command)),
+        BROADCAST => TraceLine::Ask(Request::Broadcast(HardwareHartId(a), command)),
+        _ => return None,
+    };
+    Some(line)
 }
 
-// The request of fields.
-fn request_of(fields: &[u64]) -> Parsed
+// The line of fields: by their number, then by the word.
+fn request_of(fields: &[u64]) -> Option<TraceLine>
     ensures { result ≡ request_of fields.now }
 {
-    let count = fields.len();
-    if count == 1 {
-        return of_none(fields[0]);
+    match *fields {
+        [word] => of_none(word),
+        [word, a] => of_one(word, a),
+        [word, a, b] => of_two(word, a, b),
+        [word, a, b, c] => of_three(word, a, b, c),
+        [word, a, b, c, d] => of_four(word, a, b, c, d),
+        [word, a, b, c, d, e, f, g] => of_seven(word, a, b, c, d, e, f, g),
+        _ => None,
     }
-    if count == 2 {
-        return of_one(fields[0], fields[1]);
-    }
-    if count == 3 {
-        return of_two(fields[0], fields[1], fields[2]);
-    }
-    if count == 4 {
-        return of_three(fields[0], fields[1], fields[2], fields[3]);
-    }
-    if count == 5 {
-        return of_four(fields[0], fields[1], fields[2], fields[3], fields[4]);
-    }
-    if count == 8 {
-        return of_seven(
-            fields[0], fields[1], fields[2], fields[3], fields[4], fields[5], fields[6], fields[7],
-        );
-    }
-    Parsed::BadLine
 }
 
-// Ends a line that was read in parts, and tells what it says. Where fewer than 8 words are lent, a line of more fields than words is no request.
-pub fn request(line: Line, fields: &mut [u64]) -> Parsed
+// Ends a line that was read in parts, and tells what it says: `None` of a line that is no request's. Where fewer than 8 words are lent, a line
+// of more fields than words is no request.
+pub fn request(line: Line, fields: &mut [u64]) -> Option<TraceLine>
     ensures { Tells (fields_in (reading line fields.old)) result
         × (fields.new ≡ (closed (reading line fields.old)).fields) }
 {
-    let count = trace_fields::end(line, fields);
+    let count = trace_fields::end(line, fields)?;
     request_of(&fields[..count])
 }
 
 // What a line says, which is given without its end.
-pub fn parse(text: &[u8]) -> Parsed
+pub fn parse(text: &[u8]) -> Option<TraceLine>
     ensures { Reads text.now result }
 {
     let mut fields = [0u64; FIELDS];

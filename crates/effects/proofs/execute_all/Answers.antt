@@ -6,12 +6,12 @@ use Rattle.effects.proofs.EffectLaws.{did_none, did_next, did_all}
 use Rattle.effects.proofs.execute_all.Goals as goal
 
 pub loop-i-init : goal.loop-i-init
-loop-i-init c = (search rules, refl, did_none _ _ _)
+loop-i-init c = (refl, did_none _ _ _)
 
 pub loop-i-preserved : goal.loop-i-preserved
 loop-i-preserved c =
-    (search rules, search rules, did_next _ _ _ c.loop-i.invariant.2 c.command.ensures c.execute-off.ensures)
+    (search rules, did_next _ _ _ c.loop-i.invariant.1 c.command.ensures c.execute-off.ensures)
 
 pub returns : goal.returns
 unfolding commands
-returns c = did_all _ _ _ c.loop-i.invariant.2 (search rules) (search rules)
+returns c = did_all _ _ _ c.loop-i.invariant.1 (search rules) (search rules)

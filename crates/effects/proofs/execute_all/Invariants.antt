@@ -1,5 +1,4 @@
 -- `effects::execute_all` meets its contract: the commands passed are done in their order, the rest of the room is as it was. Assumes nothing.
-use Prim.Native.Nat.{◌-◌, ◌≤◌}
 use mathlib.Core.Path.{◌≡◌}
 use lib.ListN.{length}
 use Rattle.remote_commands.specs.Queue.{command_at}
@@ -8,7 +7,4 @@ use Rattle.effects.proofs.execute_all.Given as goal
 
 abbrev pub invariant-loop-i : goal.invariant-loop-i
 invariant-loop-i l =
-    (l.i ≤ l.n) × (length l.effects ≡ length l.initial.effects) × Did l.hart (command_at l.queue) l.initial.effects l.i l.off l.effects
-
-abbrev pub decreases-loop-i : goal.decreases-loop-i
-decreases-loop-i l = l.n - l.i
+    (length l.effects ≡ length l.initial.effects) × Did l.hart (command_at l.queue) l.initial.effects l.i l.off l.effects

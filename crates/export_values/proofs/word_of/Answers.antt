@@ -1,10 +1,7 @@
 -- `export_values::word_of` meets its contract: one choice. Assumes nothing.
-use mathlib.Core.Path.{refl}
-use Rattle.table_rows.proofs.PickLaws.{yes, no}
+use Rattle.std.proofs.Common.{rules}
+use Rattle.monitor_requests.proofs.AnswerLaws.{flag_value}
 use Rattle.export_values.proofs.word_of.Goals as goal
 
-pub returns-then-flag : goal.returns-then-flag
-returns-then-flag c = yes _ c.if-flag.true refl
-
 pub returns : goal.returns
-returns c = no _ c.if-flag.false refl
+returns c = search (rules, flag_value)

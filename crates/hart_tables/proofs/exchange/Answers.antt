@@ -1,14 +1,10 @@
--- `hart_tables::exchange` meets its contract: both records are loaded before one is stored. Assumes nothing.
-use mathlib.Core.Path.{ap, ◌∙◌}
-use Rattle.table_rows.specs.Rows.{put}
-use Rattle.hart_rows.specs.HartRows.{hart_words, to_words}
-use Rattle.hart_rows.proofs.HartRowLaws.{loaded_words}
+-- `hart_tables::exchange` meets its contract: each row is lent as a part, and the two parts are swapped. Assumes nothing.
+use Rattle.table_rows.proofs.PartLaws.{part_row, part_put}
+use Rattle.hart_rows.specs.HartRows.{hart_words}
 use Rattle.hart_tables.proofs.exchange.Goals as goal
 
 pub returns : goal.returns
 returns c = (
-  c.store.ensures
-      ∙ ap (put hart_words _ _) (ap to_words c.load-dummy.ensures ∙ loaded_words _ _ c.requires.1),
-  c.store-2.ensures
-      ∙ ap (put hart_words _ _) (ap to_words c.load-real.ensures ∙ loaded_words _ _ c.requires.0),
+  rw (part_put hart_words, c.swap_with_slice.ensures.after, part_row hart_words),
+  rw (part_put hart_words, c.swap_with_slice.ensures.other_after, part_row hart_words),
 )

@@ -3,10 +3,10 @@ use mathlib.Core.Path.{sym, ◌∙◌}
 use Rattle.held_hart.proofs.HeldLaws.{own_none, own_one}
 use Rattle.held_hart.proofs.execute_own.Goals as goal
 
-pub returns-then-passed : goal.returns-then-passed
-returns-then-passed c = own_none _ _ _ _ _ (sym c.is_hart_selected-passed.ensures ∙ c.if-passed.true)
+pub returns-then-not-is_hart_selected : goal.returns-then-not-is_hart_selected
+returns-then-not-is_hart_selected c = own_none _ _ _ _ _ (sym c.is_hart_selected.ensures ∙ c.if-not-is_hart_selected.true)
 
 pub returns : goal.returns
 returns c =
-    own_one _ _ _ _ _ (sym c.is_hart_selected-passed.ensures ∙ c.if-passed.false) c.execute-off.ensures.0
+    own_one _ _ _ _ _ (sym c.is_hart_selected.ensures ∙ c.if-not-is_hart_selected.false) c.execute-off.ensures.0
     c.power_off_if.ensures c.execute-off.ensures.1

@@ -8,7 +8,8 @@ use Rattle.lent_mmio_regions.proofs.lent_is_mmio_region_defined.Goals as goal
 pub returns : goal.returns
 returns c =
     let a = c.args in
-    c.is_defined.ensures
+    c.from.ensures
+    ∙ c.is_defined.ensures
     ∙ ap (λ (s : Survey). defined_answer s a.base a.size)
-    (c.survey_run-seen.ensures ∙ ap (surveyed a.regions.now a.count) c.requested-query.ensures)
+    (c.survey_run.ensures ∙ ap (surveyed a.regions.now a.count) c.requested-query.ensures)
     ∙ defined_answer_lem a.regions.now a.count a.base a.size

@@ -1,13 +1,13 @@
 -- `mmio_region_survey::keep` meets its contract. Assumes nothing.
-use mathlib.Core.Path.{refl, sym, ◌∙◌}
-use Rattle.table_rows.proofs.PickLaws.{yes, no}
+use Rattle.std.proofs.Common.{rules, tests}
+use Rattle.table_rows.specs.Choice.{pick}
 use Rattle.mmio_region_survey.specs.Survey.{kept_of}
 use Rattle.mmio_region_survey.proofs.keep.Goals as goal
 
 pub returns-then-overlaps : goal.returns-then-overlaps
-unfolding kept_of
-returns-then-overlaps c = yes _ (sym c.overlaps.ensures ∙ c.if-overlaps.true) refl
+unfolding kept_of pick
+returns-then-overlaps c = search (rules, tests)
 
 pub returns : goal.returns
-unfolding kept_of
-returns c = no _ (sym c.overlaps.ensures ∙ c.if-overlaps.false) refl
+unfolding kept_of pick
+returns c = search (rules, tests)

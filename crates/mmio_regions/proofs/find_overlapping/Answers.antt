@@ -1,20 +1,16 @@
--- `mmio_regions::find_overlapping` meets its contract: no place that was passed overlaps the query. Assumes nothing.
-use borrow.Author.Rules.{rules}
-use Rattle.mmio_regions.proofs.TableLaws.{none_yet, none_next, first_here, first_none}
+-- `mmio_regions::find_overlapping` meets its contract. Assumes nothing.
+use Rattle.std.proofs.Common.{◌≡◌, true, false, rules, tests}
+use Rattle.std.proofs.lemmas.Iterator.{first_from_Range}
+use Rattle.confidential_vm_mmio_region.specs.Region.{overlaps}
+use Rattle.mmio_regions.specs.Table.{region_at}
+use Rattle.mmio_regions.proofs.TableLaws.{first_found}
 use Rattle.mmio_regions.proofs.find_overlapping.Goals as goal
 
-pub loop-i-init : goal.loop-i-init
-loop-i-init c = (search rules, none_yet _ _)
-
-pub returns-then-overlaps : goal.returns-then-overlaps
-returns-then-overlaps c =
-    let turn = c.loop-i in
-    first_here _ _ turn.i turn.invariant.1 c.region.ensures c.overlaps.ensures _ (search rules) c.if-overlaps.true
-
-pub loop-i-preserved : goal.loop-i-preserved
-loop-i-preserved c =
-    let turn = c.loop-i in
-    (search rules, none_next _ _ turn.i turn.invariant.1 c.region.ensures c.overlaps.ensures c.if-overlaps.false)
-
 pub returns : goal.returns
-returns c = first_none _ _ c.loop-i.i _ c.loop-i.invariant.1 (search rules) (search rules)
+returns c =
+    let at = region_at c.args.regions.now in
+    let q = c.args.query in
+    rw c.unwrap_or.ensures
+    (first_found (λ r. overlaps r q) c.args.regions.now c.args.count _
+    (first_from_Range _ _ _ _ (λ i. overlaps (at i) q ≡ true) (λ i. overlaps (at i) q ≡ false) c.find.ensures.ran
+    (λ x k. search (rules, tests)) (λ x k. search (rules, tests))))

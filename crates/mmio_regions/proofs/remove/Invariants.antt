@@ -1,10 +1,6 @@
 -- `mmio_regions::remove` meets its contract: the places passed are swept. Assumes nothing.
-use Prim.Native.Nat.{◌≤◌, ◌-◌}
 use Rattle.mmio_regions.proofs.RemoveLaws.{Swept}
 use Rattle.mmio_regions.proofs.remove.Given as goal
 
 abbrev pub invariant-loop-i : goal.invariant-loop-i
-invariant-loop-i l = (l.i ≤ l.n) × Swept l.query l.initial.regions l.i l.kept l.regions
-
-abbrev pub decreases-loop-i : goal.decreases-loop-i
-decreases-loop-i l = l.n - l.i
+invariant-loop-i l = Swept l.query l.initial.regions l.i l.kept l.regions

@@ -6,7 +6,7 @@ use Rattle.export_values.proofs.ExportLaws.{value_told}
 use Rattle.monitor_exports.proofs.oudrameng_is_mmio_region_defined.Goals as goal
 
 pub returns-then-value-lt-VALUE_WORDS : goal.returns-then-value-lt-VALUE_WORDS
-returns-then-value-lt-VALUE_WORDS c = yes _ (lt-ltb _ _ c.if-value-lt-VALUE_WORDS.true) refl
+returns-then-value-lt-VALUE_WORDS c = rw c.number.ensures (yes _ (lt-ltb _ _ c.if-value-lt-VALUE_WORDS.true) refl)
 
 pub returns : goal.returns
 returns c = no _ (le-ltb _ _ c.if-value-lt-VALUE_WORDS.false) (value_told c.args.value.now c.is_mmio_region_defined-answer.ensures c.tell.ensures)

@@ -6,7 +6,7 @@ use Rattle.monitor_exports.proofs.ReplyLaws.{reply_value_told}
 use Rattle.monitor_exports.proofs.oudrameng_process_confidential_hart_remote_commands.Goals as goal
 
 pub returns-then-value-lt-REPLY_VALUE_WORDS : goal.returns-then-value-lt-REPLY_VALUE_WORDS
-returns-then-value-lt-REPLY_VALUE_WORDS c = yes _ (lt-ltb _ _ c.if-value-lt-REPLY_VALUE_WORDS.true) refl
+returns-then-value-lt-REPLY_VALUE_WORDS c = rw c.number.ensures (yes _ (lt-ltb _ _ c.if-value-lt-REPLY_VALUE_WORDS.true) refl)
 
 pub returns : goal.returns
 returns c =

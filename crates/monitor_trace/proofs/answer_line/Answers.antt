@@ -12,4 +12,4 @@ returns-then-out-lt-MOST_PRINTED c = yes _ (lt-ltb _ _ c.if-out-lt-MOST_PRINTED.
 
 pub returns : goal.returns
 returns c =
-    turn_is _ _ _ _ _ _ _ _ _ _ _ c.if-out-lt-MOST_PRINTED.false c.perform_line-answer.ensures c.number-accepted.ensures c.print-length.ensures
+    turn_is _ _ _ _ _ _ _ _ _ _ _ c.if-out-lt-MOST_PRINTED.false c.perform_line-reply.ensures c.is_ok.ensures.value c.print.ensures

@@ -1,23 +1,15 @@
--- `remote_commands::find` meets its contract: no command passed so far equals c. Assumes nothing.
-use borrow.Author.Rules.{rules}
-use mathlib.Core.Bool.{not}
-use mathlib.Core.Path.{ap}
-use Rattle.table_rows.proofs.EveryLaws.{every_none, every_all}
+-- `remote_commands::find` meets its contract: it stops at the first command that equals c. Assumes nothing.
+use Rattle.std.proofs.Common.{rules, ◌≡◌, refl}
+use Rattle.std.proofs.iter.runs.Sources.{ranges}
+use lib.ListN.{get_or}
+use Rattle.table_rows.proofs.ExistsLaws.{exists_found}
+use Rattle.confidential_hart_remote_command.specs.Command.{same}
 use Rattle.remote_commands.specs.Queue.{queued}
-use Rattle.remote_commands.proofs.QueueLaws.{find_hit, find_miss}
 use Rattle.remote_commands.proofs.find.Goals as goal
 
-pub loop-i-init : goal.loop-i-init
-loop-i-init c = (search rules, every_none _)
-
-pub returns-then-eq : goal.returns-then-eq
-returns-then-eq c =
-    find_hit _ _ _ _ _ c.command.ensures c.eq.ensures c.loop-i-test.true c.if-eq.true
-
-pub loop-i-preserved : goal.loop-i-preserved
-loop-i-preserved c =
-    (search rules, find_miss _ _ _ _ _ c.command.ensures c.eq.ensures c.loop-i.invariant.1 c.if-eq.false)
-
 pub returns : goal.returns
-unfolding queued
-returns c = ap not (every_all _ _ _ c.loop-i.invariant.1 (search rules) (search rules))
+unfolding queued same
+returns c =
+    exists_found _ _ _
+    (λ e. search (rules, ranges))
+    (λ e i l. let read : get_or c.args.queue.now i 0 ≡ get_or c.args.queue.now i 0 = refl in search (rules, ranges))

@@ -1,7 +1,7 @@
 -- `remote_commands::offer` meets its contract. Assumes nothing.
 use mathlib.Core.Path.{refl, sym, ◌∙◌, ap}
 use borrow.Author.Tests.{le-leb, lt-leb}
-use Rattle.error.specs.Error.{done}
+use Rattle.std.proofs.Common.{Ok}
 use Rattle.table_rows.proofs.PickLaws.{yes, no}
 use Rattle.remote_commands.specs.Queue.{offered, offer}
 use Rattle.remote_commands.proofs.offer.Goals as goal
@@ -19,4 +19,4 @@ pub returns : goal.returns
 unfolding offered
 returns c =
     no _ (lt-leb _ _ c.if-n-ge-MAX_NUMBER_OF_COMMANDS.false)
-    (no _ (sym c.find.ensures ∙ c.if-find.false) (ap (offer done) c.push.ensures))
+    (no _ (sym c.find.ensures ∙ c.if-find.false) (ap (offer (Ok tt)) c.push.ensures))

@@ -1,5 +1,4 @@
 -- `trace_answers::put_all_did` meets its contract: the lines of the records passed are put, one after the other. Assumes nothing.
-use Prim.Native.Nat.{◌-◌, ◌≤◌}
 use mathlib.Core.Path.{◌≡◌}
 use lib.ListN.{length}
 use Rattle.table_rows.specs.Rows.{rows_of}
@@ -8,8 +7,4 @@ use Rattle.trace_answers.specs.Printed.{did_line}
 use Rattle.trace_answers.proofs.put_all_did.Given as goal
 
 abbrev pub invariant-loop-i : goal.invariant-loop-i
-invariant-loop-i l =
-    (l.i ≤ l.did) × (length l.out ≡ length l.initial.out) × Put 0 (rows_of (did_line l.effects) l.i) l.initial.out l.place l.out
-
-abbrev pub decreases-loop-i : goal.decreases-loop-i
-decreases-loop-i l = l.did - l.i
+invariant-loop-i l = (length l.out ≡ length l.initial.out) × Put 0 (rows_of (did_line l.effects) l.i) l.initial.out l.place l.out

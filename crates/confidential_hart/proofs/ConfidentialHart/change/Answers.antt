@@ -1,42 +1,22 @@
--- `confidential_hart::ConfidentialHart::change` meets its contract: the checks in their order, then what the table's number tells. Assumes nothing.
-use mathlib.Core.Path.{refl, sym, ap, ◌∙◌}
-use mathlib.Core.Bool.{not}
+-- `confidential_hart::ConfidentialHart::change` meets its contract: the checks in their order, then what the lifecycle allows. Assumes nothing.
+use mathlib.Core.Path.{sym}
 use borrow.Author.Rules.{rules}
-use borrow.Author.Tests.{not-false}
-use Rattle.table_rows.proofs.PickLaws.{yes, no}
-use Rattle.confidential_hart.specs.Transition.{transition}
+use native.Mathlib.Omega.{arith}
 use Rattle.confidential_hart.proofs.HartLaws.{formed_facts}
-use Rattle.confidential_hart.proofs.TransitionLaws.{number_refuses, number_becomes}
+use Rattle.confidential_hart.proofs.TransitionLaws.{malformed_is, dummy_is, turned_is}
 use Rattle.confidential_hart.proofs.ConfidentialHart.change.Goals as goal
 
-pub returns-then-malformed : goal.returns-then-malformed
-unfolding transition
-returns-then-malformed c = yes _ (ap not (sym c.is_well_formed-malformed.ensures ∙ c.if-malformed.true)) refl
+pub returns-then-not-is_well_formed : goal.returns-then-not-is_well_formed
+returns-then-not-is_well_formed c g = sym (malformed_is _ _ g _ (search rules))
 
 pub returns-then-is_dummy : goal.returns-then-is_dummy
-unfolding transition
-returns-then-is_dummy c =
-    no _ (ap not (sym c.is_well_formed-malformed.ensures ∙ c.if-malformed.false))
-    (yes _ (sym c.is_dummy.ensures ∙ c.if-is_dummy.true) refl)
+returns-then-is_dummy c g = sym (dummy_is _ _ g _ (search rules) (search rules))
 
-pub lifecycle_change-entry-requires : goal.lifecycle_change-entry-requires
-lifecycle_change-entry-requires c = (
-  (formed_facts c.args.self
-      (not-false _ (ap not (sym c.is_well_formed-malformed.ensures ∙ c.if-malformed.false)))
-      ).state_known,
-  search rules,
-)
-
-pub returns-then-entry-gt-POWERED_OFF : goal.returns-then-entry-gt-POWERED_OFF
-unfolding transition
-returns-then-entry-gt-POWERED_OFF c =
-    no _ (ap not (sym c.is_well_formed-malformed.ensures ∙ c.if-malformed.false))
-    (no _ (sym c.is_dummy.ensures ∙ c.if-is_dummy.false)
-    (number_refuses c.args.change _ c.args.self _ c.lifecycle_change-entry.ensures c.if-entry-gt-POWERED_OFF.true))
+pub returns-in_err-try_from : goal.returns-in_err-try_from
+returns-in_err-try_from c g =
+    let known = (formed_facts c.args.self (search rules)).state_known in
+    let past = c.in_err-try_from.ensures.1 in
+    absurd (omega arith)
 
 pub returns : goal.returns
-unfolding transition
-returns c =
-    no _ (ap not (sym c.is_well_formed-malformed.ensures ∙ c.if-malformed.false))
-    (no _ (sym c.is_dummy.ensures ∙ c.if-is_dummy.false)
-    (number_becomes c.args.change _ c.args.self _ c.lifecycle_change-entry.ensures c.if-entry-gt-POWERED_OFF.false))
+returns c g = turned_is _ _ g _ (search rules) (search rules) _ (search rules)

@@ -1,36 +1,32 @@
--- `trace_fields::Line::more` meets its contract: the code divides where the definition multiplies. Assumes nothing.
-use Prim.Native.Nat.{ℕ, ◌+◌, ◌*◌}
-use mathlib.Core.Path.{ap}
-use mathlib.Core.Bool.{true, false}
-use borrow.Author.Rules.{rules}
-use borrow.Author.Tests.{le-leb, lt-leb}
-use Rattle.table_rows.proofs.PickLaws.{yes, no}
-use Rattle.trace_fields.specs.Fields.{more}
-use Rattle.trace_fields.proofs.FieldLaws.{too_high, not_too_high}
+-- `trace_fields::Line::more` meets its contract: what may not follow, or is above the highest value, spoils the line. Assumes nothing.
+use mathlib.Core.Path.{refl, ap, sym, ◌∙◌}
+use native.Mathlib.Omega.{arith}
+use Rattle.std.specs.Prelude.{Option}
+use Rattle.std.specs.Option.{unwrap_or}
+use Rattle.table_rows.proofs.PickLaws.{yes}
+use Rattle.trace_fields.specs.declared.Line.{Line}
+use Rattle.trace_fields.specs.Fields.{spoilt, more}
+use Rattle.trace_fields.proofs.FieldLaws.{more_high, more_fits}
 use Rattle.trace_fields.proofs.Line.more.Goals as goal
 
-pub returns-then-self-value : goal.returns-then-self-value
+pub returns-then-cannot_follow : goal.returns-then-cannot_follow
 unfolding more
-returns-then-self-value c = yes _ c.if-self-value.true c.spoilt.ensures
+returns-then-cannot_follow c = yes _ (sym c.cannot_follow.ensures ∙ c.if-cannot_follow.true) refl
 
-pub returns-then-digit-base : goal.returns-then-digit-base
-unfolding more
-returns-then-digit-base c =
-    let v = c.args.self.value in
-    no _ c.if-self-value.false
-    (yes _
-    (le-leb _ _
-    (rw c.wide-digit.ensures at (too_high c.requires.0 v c.wide-digit.result (search rules) c.if-digit-base.true)))
-    c.spoilt-then-digit-base.ensures)
+pub returns-in_err-checked_mul : goal.returns-in_err-checked_mul
+returns-in_err-checked_mul c =
+    ap (λ (r : Option Line). unwrap_or r spoilt) c.from_residual.ensures
+    ∙ more_high _ _ _ _ c.args.self _ (sym c.cannot_follow.ensures ∙ c.if-cannot_follow.false)
+    (omega (arith, c.in_err-checked_mul.ensures))
+
+pub returns-in_err-value : goal.returns-in_err-value
+returns-in_err-value c =
+    ap (λ (r : Option Line). unwrap_or r spoilt) c.from_residual-in_err-value.ensures
+    ∙ more_high _ _ _ _ c.args.self _ (sym c.cannot_follow.ensures ∙ c.if-cannot_follow.false)
+    (omega (arith, c.in_err-value.ensures, c.in_ok-checked_mul.ensures, c.from-digit.ensures))
 
 pub returns : goal.returns
-unfolding more
 returns c =
-    let self = c.args.self in
-    no _ c.if-self-value.false
-    (no _
-    (lt-leb _ _
-    (rw c.wide-digit.ensures at
-    (not_too_high c.requires.0 self.value c.wide-digit.result (search rules) c.if-digit-base.false)))
-    (ap (λ (d : ℕ). record { count = self.count; value = self.value * c.args.base + d; begun = true; bad = false })
-    c.wide-digit.ensures))
+    more_fits _ _ _ _ c.args.self _ (sym c.cannot_follow.ensures ∙ c.if-cannot_follow.false)
+    (omega (arith, c.in_ok-value.ensures))
+    (omega (arith, c.in_ok-value.ensures, c.in_ok-checked_mul.ensures, c.from-digit.ensures))

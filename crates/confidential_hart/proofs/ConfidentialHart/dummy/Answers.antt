@@ -1,6 +1,0 @@
--- `confidential_hart::ConfidentialHart::dummy` meets its contract. Assumes nothing.
-use mathlib.Core.Path.{refl}
-use Rattle.confidential_hart.proofs.ConfidentialHart.dummy.Goals as goal
-
-pub returns : goal.returns
-returns c = refl

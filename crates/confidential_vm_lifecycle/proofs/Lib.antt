@@ -1,0 +1,1 @@
+-- What belongs to no one function of `confidential_vm_lifecycle`, and what other crates use.

@@ -1,6 +1,0 @@
--- `confidential_vm_mmio_region::ConfidentialVmMmioRegion::contains` meets its contract. Assumes nothing.
-use mathlib.Core.Path.{refl}
-use Rattle.confidential_vm_mmio_region.proofs.ConfidentialVmMmioRegion.contains.Goals as goal
-
-pub returns : goal.returns
-returns c = refl
