@@ -108,7 +108,7 @@ pub const MOST_DETAILS: usize = 3;
 pub struct Told {
     number: u64,
     word: Option<Word>,
-    // the details are the first `count` of these: there is no heap, and a vector of fixed capacity would be a library more for three numbers
+    // the details are the first `count` of these: there is no heap, and a vector of fixed capacity was not tried
     numbers: [u64; MOST_DETAILS],
     count: usize,
 }

@@ -21,7 +21,7 @@ const LETTERS: u64 = 100;
 const BEFORE_A: u8 = b'a' - 1;
 
 // Writes one byte, and gives the place after it. So do the others with what they write. The place and the buffer are handed on one by one: a
-// writer that holds both was tried: each of its methods has to promise that it keeps its reference to the buffer, and is no plainer.
+// writer that holds both was tried for three of them: each of its methods has to promise that it keeps its reference to the buffer.
 pub fn put_byte(byte: u8, at: usize, out: &mut [u8]) -> usize
     requires { at + 1 ≤ length out.old }
     ensures { Put at (byte ∷ []) out.old result out.new }
