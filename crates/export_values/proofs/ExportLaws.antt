@@ -2,14 +2,13 @@
 use Prim.Native.Nat.{ℕ}
 use mathlib.Core.Path.{◌≡◌, ap, ◌∙◌}
 use mathlib.Core.List.{List}
-use Rattle.monitor_requests.proofs.AnswerLaws.{number_given}
-use Rattle.error.specs.Error as errors
+use Rattle.monitor_requests.specs.Answers.{given}
 use Rattle.monitor_requests.specs.Requests.{Outcome}
 use Rattle.export_values.specs.Exports.{numbered, number_in, Written, written, told, exported, value_in}
 
 -- the number of the answer of o, where o is the definition's
-pub number_told : {o p : Outcome} {n : ℕ} → o ≡ p → n ≡ errors.number_in o.answer → numbered n o.after ≡ number_in p
-number_told {o} e q = ap (λ (n : ℕ). numbered n o.after) (q ∙ number_given o.answer) ∙ ap number_in e
+pub number_told : {o p : Outcome} {n : ℕ} → o ≡ p → n ≡ (given o.answer).number → numbered n o.after ≡ number_in p
+number_told {o} e q = ap (λ (n : ℕ). numbered n o.after) q ∙ ap number_in e
 
 -- its number, and its values in the words
 pub value_told : {o p : Outcome} {n : ℕ} {w : List ℕ} (words : List ℕ) → o ≡ p → written n w ≡ told o.answer words → exported n w o.after ≡ value_in p words

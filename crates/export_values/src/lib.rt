@@ -3,7 +3,7 @@
 
 ghost use Rattle.std.specs.Prelude.{◌≡◌, ◌≤◌, length};
 ghost use Rattle.table_rows.specs.Choice.{pick};
-ghost use Rattle.monitor_requests.specs.Answers.{word_values};
+ghost use Rattle.monitor_requests.specs.Answers.{given, word_values};
 ghost use Rattle.export_values.specs.Exports.{value_words, Fronted, written, told};
 
 use error::Error;
@@ -14,6 +14,13 @@ pub fn word_of(flag: bool) -> u64
     ensures { result ≡ pick flag 1 0 }
 {
     u64::from(flag)
+}
+
+// The number that a request gives, of an answer that has no values.
+pub fn number(answered: Result<Answer, Error>) -> u64
+    ensures { result ≡ (given answered).number }
+{
+    Told::new(answered).number()
 }
 
 // Writes the value of a word, if there is one, over the front, and gives the place after it.

@@ -65,7 +65,7 @@ pub extern "C" fn oudrameng_new(
         vsatp,
         vsstatus,
     };
-    error::number_in(confidential_vm_setup::new(setup, head, home, hardware, queues, regions))
+    export_values::number(confidential_vm_setup::new(setup, head, home, hardware, queues, regions))
 }
 
 // Assigns a hart to a hardware hart. The value is the mask of external interrupts.
@@ -111,7 +111,7 @@ pub extern "C" fn oudrameng_return_confidential_hart(
     ensures { numbered result (tables head.now home.new hardware.new queues.now regions.now)
         ≡ unvalued (Return (hardware_hart_id on)) (tables head.now home.old hardware.old queues.now regions.now) }
 {
-    error::number_in(confidential_vm::return_confidential_hart(
+    export_values::number(confidential_vm::return_confidential_hart(
         HardwareHartId(on),
         head,
         home,
@@ -134,7 +134,7 @@ pub extern "C" fn oudrameng_allow_external_interrupt(
     ensures { numbered result (tables head.new home.now hardware.now queues.now regions.now)
         ≡ unvalued (Allow bits) (tables head.old home.now hardware.now queues.now regions.now) }
 {
-    error::number_in(confidential_vm::allow_external_interrupt(
+    export_values::number(confidential_vm::allow_external_interrupt(
         bits, head, home, hardware, queues, regions,
     ))
 }
@@ -154,7 +154,7 @@ pub extern "C" fn oudrameng_start_confidential_hart(
     ensures { numbered result (tables head.now home.new hardware.now queues.now regions.now)
         ≡ unvalued (Start (hart_id hart) address opaque) (tables head.now home.old hardware.now queues.now regions.now) }
 {
-    error::number_in(confidential_vm_lifecycle::start_confidential_hart(
+    export_values::number(confidential_vm_lifecycle::start_confidential_hart(
         ConfidentialHartId(hart),
         address,
         opaque,
@@ -265,7 +265,7 @@ pub extern "C" fn oudrameng_add_mmio_region(
     ensures { numbered result (tables head.new home.now hardware.now queues.now regions.new)
         ≡ unvalued (Add base size) (tables head.old home.now hardware.now queues.now regions.old) }
 {
-    error::number_in(confidential_vm_mmio_regions::add_mmio_region(
+    export_values::number(confidential_vm_mmio_regions::add_mmio_region(
         base, size, head, home, hardware, queues, regions,
     ))
 }
@@ -284,7 +284,7 @@ pub extern "C" fn oudrameng_remove_mmio_region(
     ensures { numbered result (tables head.new home.now hardware.now queues.now regions.new)
         ≡ unvalued (Remove base size) (tables head.old home.now hardware.now queues.now regions.old) }
 {
-    error::number_in(confidential_vm_mmio_regions::remove_mmio_region(
+    export_values::number(confidential_vm_mmio_regions::remove_mmio_region(
         base, size, head, home, hardware, queues, regions,
     ))
 }
@@ -336,7 +336,7 @@ pub extern "C" fn oudrameng_suspend_confidential_hart(
     ensures { numbered result (tables head.now home.now hardware.new queues.now regions.now)
         ≡ unvalued (Suspend (hardware_hart_id on)) (tables head.now home.now hardware.old queues.now regions.now) }
 {
-    error::number_in(confidential_flow_lifecycle::suspend_confidential_hart(
+    export_values::number(confidential_flow_lifecycle::suspend_confidential_hart(
         HardwareHartId(on),
         head,
         home,
@@ -359,7 +359,7 @@ pub extern "C" fn oudrameng_stop_confidential_hart(
     ensures { numbered result (tables head.now home.now hardware.new queues.now regions.now)
         ≡ unvalued (Stop (hardware_hart_id on)) (tables head.now home.now hardware.old queues.now regions.now) }
 {
-    error::number_in(confidential_flow_lifecycle::stop_confidential_hart(
+    export_values::number(confidential_flow_lifecycle::stop_confidential_hart(
         HardwareHartId(on),
         head,
         home,
@@ -384,7 +384,7 @@ pub extern "C" fn oudrameng_resume_confidential_hart(
     ensures { numbered result (tables head.now home.now hardware.new queues.now regions.now)
         ≡ unvalued (Wake (hardware_hart_id on) address opaque) (tables head.now home.now hardware.old queues.now regions.now) }
 {
-    error::number_in(confidential_flow_lifecycle::resume_confidential_hart(
+    export_values::number(confidential_flow_lifecycle::resume_confidential_hart(
         HardwareHartId(on),
         address,
         opaque,
@@ -409,7 +409,7 @@ pub extern "C" fn oudrameng_shutdown_confidential_hart(
     ensures { numbered result (tables head.now home.now hardware.new queues.now regions.now)
         ≡ unvalued (Off (hardware_hart_id on)) (tables head.now home.now hardware.old queues.now regions.now) }
 {
-    error::number_in(confidential_flow_lifecycle::shutdown_confidential_hart(
+    export_values::number(confidential_flow_lifecycle::shutdown_confidential_hart(
         HardwareHartId(on),
         head,
         home,
@@ -435,7 +435,7 @@ pub extern "C" fn oudrameng_set_resumable_operation(
     ensures { numbered result (tables head.now home.now hardware.new queues.now regions.now)
         ≡ unvalued (Await (hardware_hart_id on) kind x y) (tables head.now home.now hardware.old queues.now regions.now) }
 {
-    error::number_in(confidential_flow::set_resumable_operation(
+    export_values::number(confidential_flow::set_resumable_operation(
         HardwareHartId(on),
         kind,
         x,

@@ -81,6 +81,9 @@ count_none (another m c) ne = c
 pub no_mask : (a : Answered) → ((mask : ℕ) → a ≢ Ok (Mask mask)) → is_mask a ≡ false
 no_mask a ne = mask_none (singled a) ne
 
+pub no_count : (a : Answered) → ((count : ℕ) → a ≢ Ok (Count count)) → is_count a ≡ false
+no_count a ne = count_none (singled a) ne
+
 -- an answer is a refusal, or its number is 0
 pub by_refusal : (P : Answered → Type 0) → ((e : Error) → P (Err e)) → ((a : Answered) → (given a).number ≡ done → P a) → (a : Answered) → P a
 by_refusal P refusal other (Err e) = refusal e

@@ -1,5 +1,5 @@
 -- What a request gives: its number, its word and its details. No other definition has a list of the answers.
-use Rattle.std.specs.Prelude.{ℕ, Bool, true, false, List, [], ◌∷◌, ◌++◌, Option, None, Some, Result, Ok, Err}
+use Rattle.std.specs.Prelude.{ℕ, ◌-◌, length, replicate, Bool, true, false, List, [], ◌∷◌, ◌++◌, Option, None, Some, Result, Ok, Err}
 use Rattle.error.specs.declared.Error.{Error}
 use Rattle.error.specs.Error.{done, number_of}
 use Rattle.table_rows.specs.Choice.{pick}
@@ -73,3 +73,7 @@ values g = word_values g.word ++ g.details
 -- how many numbers the details of an answer are at most
 abbrev pub most_details : ℕ
 most_details = 3
+
+-- details in a place for the most of them: the others are 0
+abbrev pub filled : List ℕ → List ℕ
+filled details = details ++ replicate (most_details - length details) 0

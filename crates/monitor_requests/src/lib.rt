@@ -12,7 +12,7 @@ ghost use Rattle.monitor_requests.specs.Requests.{refused_reply};
 
 use confidential_hart::{ConfidentialHartId, HardwareHartId};
 use confidential_hart_remote_command::ConfidentialHartRemoteCommand;
-use error::Error;
+use error::{DONE, Error};
 use std::marker::Model;
 
 // The words of the head, which stand in this order: how many harts and hardware harts there are, the external interrupts that are
@@ -104,24 +104,39 @@ pub enum Word {
 pub const MOST_DETAILS: usize = 3;
 
 // What a request gives, for whoever writes it down: its number, which C and the trace are given, its word if it has one, and its details.
-#[derive(Drop, Clone)]
+#[derive(Clone, Copy)]
 pub struct Told {
     number: u64,
     word: Option<Word>,
-    // the details are the first `count` of these: there is no heap, and a vector of fixed capacity was not tried
+    // the details are the first `count` of these, and the others are 0: there is no heap, and a vector of fixed capacity was not tried
     numbers: [u64; MOST_DETAILS],
     count: usize,
 }
 
 impl Model for Told {
-    ghost use Rattle.std.specs.Prelude.{◌≤◌, take};
-    ghost use Rattle.monitor_requests.specs.Answers.{Given, gives, most_details};
+    ghost use Rattle.std.specs.Prelude.{◌≡◌, ◌≤◌, take, length};
+    ghost use Rattle.monitor_requests.specs.Answers.{Given, gives, most_details, filled};
 
     ghost Value = { Given };
 
     ghost view = { λ t. gives t.number t.word (take t.count t.numbers) };
 
-    ghost invariant = { λ t. t.count ≤ most_details };
+    ghost invariant = { λ t. (t.count ≤ most_details)
+        × (length (take t.count t.numbers) ≡ t.count) × (filled (take t.count t.numbers) ≡ t.numbers) };
+
+    ghost inverse = { λ g. record {
+      number = g.number;
+      word = g.word;
+      numbers = filled g.details;
+      count = length g.details;
+    } };
+
+    ghost inverse_ok = { λ a h. λ i. record {
+      number = a.number;
+      word = a.word;
+      numbers = h.2 i;
+      count = h.1 i;
+    } };
 }
 
 impl Told {
@@ -144,17 +159,16 @@ impl Told {
     pub fn new(answered: Result<Answer, Error>) -> Told
         ensures { result ≡ given answered }
     {
-        let number = error::number_in(answered);
         match answered {
-            Err(_) => Told::with(number, None, &[]),
-            Ok(Answer::Done) => Told::with(number, None, &[]),
-            Ok(Answer::Mask(mask)) => Told::with(number, None, &[mask]),
-            Ok(Answer::State(state)) => Told::with(number, None, &[state]),
-            Ok(Answer::Flag(flag)) => Told::with(number, None, &[u64::from(flag)]),
-            Ok(Answer::Count(count)) => Told::with(number, None, &[count]),
-            Ok(Answer::Run) => Told::with(number, Some(Word::Run), &[]),
-            Ok(Answer::PoweredOff) => Told::with(number, Some(Word::Off), &[]),
-            Ok(Answer::Operation(kind, x, y)) => Told::with(number, Some(Word::Op), &[kind, x, y]),
+            Err(e) => Told::with(e.number(), None, &[]),
+            Ok(Answer::Done) => Told::with(DONE, None, &[]),
+            Ok(Answer::Mask(mask)) => Told::with(DONE, None, &[mask]),
+            Ok(Answer::State(state)) => Told::with(DONE, None, &[state]),
+            Ok(Answer::Flag(flag)) => Told::with(DONE, None, &[u64::from(flag)]),
+            Ok(Answer::Count(count)) => Told::with(DONE, None, &[count]),
+            Ok(Answer::Run) => Told::with(DONE, Some(Word::Run), &[]),
+            Ok(Answer::PoweredOff) => Told::with(DONE, Some(Word::Off), &[]),
+            Ok(Answer::Operation(kind, x, y)) => Told::with(DONE, Some(Word::Op), &[kind, x, y]),
         }
     }
 

@@ -3,4 +3,4 @@ use Rattle.export_values.proofs.ExportLaws.{number_told}
 use Rattle.monitor_exports.proofs.oudrameng_set_resumable_operation.Goals as goal
 
 pub returns : goal.returns
-returns c = number_told c.set_resumable_operation.ensures c.number_in.ensures
+returns c = number_told c.set_resumable_operation.ensures c.number.ensures

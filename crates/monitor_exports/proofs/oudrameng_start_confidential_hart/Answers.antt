@@ -3,4 +3,4 @@ use Rattle.export_values.proofs.ExportLaws.{number_told}
 use Rattle.monitor_exports.proofs.oudrameng_start_confidential_hart.Goals as goal
 
 pub returns : goal.returns
-returns c = number_told c.start_confidential_hart.ensures c.number_in.ensures
+returns c = number_told c.start_confidential_hart.ensures c.number.ensures
