@@ -5,16 +5,20 @@ use Rattle.std.specs.Prelude.{Option, Some, None}
 use Rattle.std.proofs.lemmas.List.FromFn.{map-range_with_len_more}
 use Rattle.std.proofs.lemmas.List.{map-append}
 use mathlib.Core.Path.{◌≡◌, refl, sym, ap, ap₂, ◌∙◌}
-use mathlib.Core.Bool.{Bool, true, false, ◌&&◌, ◌||◌}
+use mathlib.Core.Bool.{Bool, true, false, ◌&&◌, ◌||◌, or-true}
 use mathlib.Core.List.{List, [], ◌∷◌, ◌++◌, append_assoc, map}
 use Prim.Native.Nat.{ℕ, zero, suc, ◌+◌, ◌-◌, ◌*◌, ◌≤◌, ◌<◌, max}
-use native.Mathlib.Nat.{suc-mul}
+use mathlib.Core.Logic.{⊎_elim}
+use native.Mathlib.Nat.{suc-mul, not-suc-le-zero, le_of_suc-le-suc, eq-or-lt_of_le, le_antisymm}
 use native.Mathlib.Numerals.{add-one}
 use native.Mathlib.Omega.{arith}
 use lib.ListN.{length, get_or, set, take, drop, replicate, length-append, length-drop, length-replicate, take-append-drop}
 use lib.Seq.{sets-eq, take-add, drop-drop, drop_at}
 use Rattle.table_rows.specs.Rows.{row, word_at, put}
 use Rattle.table_rows.proofs.RowLaws.{row_length, words_all}
+use Rattle.table_rows.proofs.PickLaws.{by_test}
+use lib.Dec.{ltb}
+use borrow.Author.Tests.{ltb-true, ltb-false}
 use Rattle.confidential_vm_mmio_region.specs.Region.{region_of}
 use Rattle.table_rows.specs.Lists.{up_to, any_of, all_of}
 use Rattle.mmio_regions.specs.Table.{region_words, region_at, standing, First, words_of, laid}
@@ -109,6 +113,17 @@ module _ (f : ConfidentialVmMmioRegion → Bool) (xs : List ℕ) where
   pub any_standing : (n : ℕ) → list_any (λ i. f (region_at xs i)) (range_with_len 0 n) ≡ any_of f (standing xs n)
   any_standing n = any_map (range_with_len 0 n) ∙ ap (any_of f) (sym (standing_map xs n))
 
+  -- a place that passes settles it
+  any_at : (i n : ℕ) → i < n → f (region_at xs i) ≡ true → any_of f (standing xs n) ≡ true
+  unfolding standing up_to
+  any_at i zero l e = absurd (not-suc-le-zero l)
+  any_at i (suc n) l e =
+      any_last f (region_at xs n) (standing xs n)
+      ∙ ⊎_elim
+      (λ q. rw (← q, e) (or-true (any_of f (standing xs i))))
+      (λ lt. rw (any_at i n lt e))
+      (eq-or-lt_of_le (le_of_suc-le-suc l))
+
   -- none passes
   none_passes : (n : ℕ) → ((k : ℕ) → k < n → f (region_at xs k) ≡ false) → any_of f (standing xs n) ≡ false
   unfolding any_of standing up_to
@@ -135,6 +150,13 @@ module _ (f : ConfidentialVmMmioRegion → Bool) (xs : List ℕ) where
     before = none_passes i (λ k l. h.3 k (omega arith) l);
     here = λ _. h.2;
   }
+
+  -- so one passes exactly when the first is one of the places
+  pub first_any : {n i : ℕ} → First f xs n i → ltb i n ≡ any_of f (standing xs n)
+  first_any {n} {i} s =
+      by_test (ltb i n)
+      (λ t. t ∙ sym (any_at i n (ltb-true i n t) (s.here (ltb-true i n t))))
+      (λ u. u ∙ sym (rw (le_antisymm s.within (ltb-false i n u)) at s.before))
 
 -- ---- regions laid into the table
 

@@ -82,18 +82,36 @@ pub fn regions_are_sound(regions: &[u64], count: u64) -> bool
     all_ordered(regions, count) & table_rows::all_zero(unused)
 }
 
-// The first place whose region overlaps the query, or `count`.
+// The first place whose region overlaps the query, or `count`. This and the next are a `for` that gives the place: the library's `find` and `any`
+// compile to two instructions more in each round, and a `for` that gives a flag to more still.
 fn find_overlapping(regions: &[u64], count: u64, query: ConfidentialVmMmioRegion) -> usize
     requires { count * region_words ≤ length regions.now }
     ensures { First (λ x. overlaps x query) regions.now count result }
 {
     let n = count as usize;
-    (0..n)
-        .find(|i| region(regions, *i).overlaps(query))
-        .unwrap_or(n)
+    for i in 0..n {
+        if region(regions, i).overlaps(query) {
+            return i;
+        }
+    }
+    n
 }
 
-// Whether one of the first `count` regions overlaps the query. This and the next are one `any` each.
+// The first place whose region contains the query, or `count`.
+fn find_containing(regions: &[u64], count: u64, query: ConfidentialVmMmioRegion) -> usize
+    requires { count * region_words ≤ length regions.now }
+    ensures { First (λ x. contains x query) regions.now count result }
+{
+    let n = count as usize;
+    for i in 0..n {
+        if region(regions, i).contains(query) {
+            return i;
+        }
+    }
+    n
+}
+
+// Whether one of the first `count` regions overlaps the query: one `any`, which compiles here as a loop by hand does.
 fn overlaps_any(regions: &[u64], count: u64, query: ConfidentialVmMmioRegion) -> bool
     requires { count * region_words ≤ length regions.now }
     ensures { result ≡ any_overlaps query (standing regions.now count) }
@@ -106,7 +124,7 @@ pub fn is_mmio_region_defined(regions: &[u64], count: u64, query: ConfidentialVm
     requires { count * region_words ≤ length regions.now }
     ensures { result ≡ any_contains query (standing regions.now count) }
 {
-    (0..count as usize).any(|i| region(regions, i).contains(query))
+    find_containing(regions, count, query) < count as usize
 }
 
 // Adds a region after the first `count`: it is refused when all places are taken, then when it overlaps one. A region that `new` made has

@@ -1,16 +1,6 @@
 -- `mmio_regions::is_mmio_region_defined` meets its contract. Assumes nothing.
-use Rattle.std.proofs.Common.{rules, arith, tests, ◌∙◌}
-use Rattle.std.proofs.lemmas.Iterator.{YieldsList-from_range}
-use Rattle.std.proofs.lemmas.Iterator.Search.{any_from_yields_List}
-use Rattle.confidential_vm_mmio_region.specs.Region.{contains}
-use Rattle.mmio_regions.specs.Table.{region_at}
-use Rattle.mmio_regions.proofs.TableLaws.{any_standing}
+use Rattle.mmio_regions.proofs.TableLaws.{first_any}
 use Rattle.mmio_regions.proofs.is_mmio_region_defined.Goals as goal
 
 pub returns : goal.returns
-returns c =
-    let n = c.args.count in
-    any_from_yields_List (λ i. contains (region_at c.args.regions.now i) c.args.query) _ _ _ c.any.ensures.ran
-    (YieldsList-from_range 0 n n (cc) (omega arith))
-    (λ x b q k. search (rules, tests))
-    ∙ any_standing (λ r. contains r c.args.query) c.args.regions.now n
+returns c = first_any _ _ c.find_containing.ensures
