@@ -6,7 +6,7 @@ ghost use Rattle.table_rows.specs.Rows.{put};
 ghost use Rattle.confidential_hart.specs.Hart.{well_formed};
 ghost use Rattle.hart_rows.specs.HartRows.{vm_word, hart_words, to_words, from_words, hart_at};
 
-use confidential_hart::{ConfidentialHart, REGISTERS};
+use confidential_hart::{A0, A1, ConfidentialHart, MEPC, MSTATUS, REGISTERS, VSATP, VSSTATUS};
 
 // The places of a row's words: the registers are the last.
 pub const VM_WORD: usize = 0;
@@ -48,8 +48,9 @@ pub fn from_words(row: &[u64]) -> ConfidentialHart
     requires { length row.now ≡ hart_words }
     ensures { result ≡ from_words row.now }
 {
-    let mut registers = [0; REGISTERS];
-    registers.copy_from_slice(&row[REGISTER_WORD..HART_WORDS]);
+    let &[a0, a1, mepc, vsatp, mstatus, vsstatus] = &row[REGISTER_WORD..HART_WORDS] else {
+        unreachable!()
+    };
     ConfidentialHart {
         vm: row[VM_WORD],
         id: row[ID_WORD],
@@ -57,7 +58,7 @@ pub fn from_words(row: &[u64]) -> ConfidentialHart
         operation: row[OPERATION_WORD],
         x: row[X_WORD],
         y: row[Y_WORD],
-        registers,
+        registers: [a0, a1, mepc, vsatp, mstatus, vsstatus],
     }
 }
 
@@ -72,7 +73,14 @@ pub fn to_words(hart: ConfidentialHart, row: &mut [u64])
     row[OPERATION_WORD] = hart.operation;
     row[X_WORD] = hart.x;
     row[Y_WORD] = hart.y;
-    row[REGISTER_WORD..HART_WORDS].copy_from_slice(&hart.registers);
+    // Word by word: `copy_from_slice` asks at run time whether the two overlap, and a record took twice as long to write.
+    let [a0, a1, mepc, vsatp, mstatus, vsstatus] = hart.registers;
+    row[REGISTER_WORD + A0] = a0;
+    row[REGISTER_WORD + A1] = a1;
+    row[REGISTER_WORD + MEPC] = mepc;
+    row[REGISTER_WORD + VSATP] = vsatp;
+    row[REGISTER_WORD + MSTATUS] = mstatus;
+    row[REGISTER_WORD + VSSTATUS] = vsstatus;
 }
 
 // The record in row `i` of a table.

@@ -1,14 +1,12 @@
--- `hart_rows::to_words` meets its contract: six words are stored one by one, and the registers as they lie. Assumes nothing.
-use mathlib.Core.Path.{◌≡◌, refl}
-use lib.ListN.{length}
-use borrow.Author.Rules.{rules}
-use Rattle.table_rows.proofs.RowLaws.{words_all}
-use Rattle.confidential_hart.specs.Hart.{register_count}
-use Rattle.hart_rows.specs.HartRows.{hart_words, to_words}
+-- `hart_rows::to_words` meets its contract: the stores fill the row. Assumes nothing.
+use lib.ListN.{length-set}
+use Rattle.table_rows.proofs.RowLaws.{sets_whole}
+use Rattle.hart_rows.specs.HartRows.{to_words}
 use Rattle.hart_rows.proofs.to_words.Goals as goal
+
+pub shape_of-row : goal.shape_of-row
+shape_of-row c = simp length-set
 
 pub returns : goal.returns
 unfolding to_words
-returns c =
-    let six : length c.args.hart.registers ≡ register_count = search rules in
-    rw (c.copy_from_slice.ensures.after, ← (words_all hart_words c.args.row.now c.requires), ← (words_all register_count c.args.hart.registers six)) refl
+returns c = sets_whole (to_words c.args.hart) c.args.row.now c.requires
