@@ -54,6 +54,7 @@ fn visit(
 }
 
 // Visits the harts in rising order, until a queue refuses, which ends the broadcast as an error ends the Rust's `try_fold`. Gives the mask.
+// The refusal is a return of its own and no `?`, so that a wrong variant can give another answer there.
 fn deliver(
     home: &[u64],
     n: usize,
@@ -66,7 +67,10 @@ fn deliver(
 {
     let mut mask = 0;
     for i in 0..n {
-        mask = visit(home, sender, c, i, mask, queues)?;
+        match visit(home, sender, c, i, mask, queues) {
+            Ok(next) => mask = next,
+            Err(full) => return Err(full),
+        }
     }
     Ok(mask)
 }

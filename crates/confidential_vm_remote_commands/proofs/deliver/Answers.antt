@@ -1,5 +1,4 @@
 -- `confidential_vm_remote_commands::deliver` meets its contract: what is left from here is what was left from the start. Assumes nothing.
-use Rattle.std.proofs.lemmas.Result.{err_from_is_err_and}
 use mathlib.Core.Path.{refl, sym, ◌∙◌}
 use borrow.Author.Rules.{rules}
 use native.Mathlib.Omega.{arith}
@@ -21,16 +20,14 @@ visit-requires c =
       omega (arith, within queue_words _ _ t, p.1, c.loop-i.invariant.0),
     )
 
-pub returns-in_err-mask : goal.returns-in_err-mask
-returns-in_err-mask c =
-    let p = err_from_is_err_and c.from_residual.result c.from_residual.ensures.1 in
-    rw (p.1, p.2)
-    (sym (turn_ends _ _ _ _ _ _ _ c.loop-i-test.true _ _ c.visit.ensures _ c.in_err-mask.was) ∙ c.loop-i.invariant.1)
+pub returns-in-Err : goal.returns-in-Err
+returns-in-Err c =
+    sym (turn_ends _ _ _ _ _ _ _ c.loop-i-test.true _ _ c.visit.ensures _ c.in-Err.is) ∙ c.loop-i.invariant.1
 
 pub loop-i-preserved : goal.loop-i-preserved
 loop-i-preserved c = (
   search rules,
-  sym (turn_taken _ _ _ _ _ _ _ c.loop-i-test.true _ _ c.visit.ensures _ c.in_ok-mask.was) ∙ c.loop-i.invariant.1,
+  sym (turn_taken _ _ _ _ _ _ _ c.loop-i-test.true _ _ c.visit.ensures _ c.in-Ok.is) ∙ c.loop-i.invariant.1,
 )
 
 pub returns : goal.returns
