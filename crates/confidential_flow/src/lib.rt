@@ -66,6 +66,9 @@ pub fn resume_confidential_hart_execution(
     ensures { replied result (tables head.now home.now hardware.new queues.new regions.now) effects.new
         ≡ performed (Resume on) (tables head.now home.now hardware.old queues.old regions.now) effects.old }
 {
+    if !sound_tables::are_tables_sound(head, home, hardware, queues, regions) {
+        return Reply::refused(Error::TablesNotSound);
+    }
     let done = confidential_flow_remote_commands::process(
         on, head, home, hardware, queues, regions, effects,
     );

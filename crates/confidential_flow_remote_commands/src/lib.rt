@@ -5,8 +5,8 @@
 // lent. Each entry takes any numbers and any tables. The five tables are lent one by one: `sound_tables` says why.
 #![tactic(auto)]
 
-ghost use Rattle.std.specs.Prelude.{◌≡◌};
-ghost use Rattle.monitor_requests.specs.Tables.{tables};
+ghost use Rattle.std.specs.Prelude.{◌≡◌, true};
+ghost use Rattle.monitor_requests.specs.Tables.{sound, Sized, tables};
 ghost use Rattle.monitor_requests.specs.declared.Request.TheVariants.{Broadcast, Process};
 ghost use Rattle.monitor_requests.specs.Requests.{replied, replying, counting, performed};
 
@@ -68,7 +68,8 @@ pub fn broadcast_remote_command(
     }
 }
 
-// The tests of a process in their order, and the commands of the held hart's queue. Gives how many there were.
+// The tests of a process in their order, and the commands of the held hart's queue. Gives how many there were. It is public for a caller that has
+// judged the tables: a judge reads them all, and this one row and one queue.
 pub fn process(
     on: HardwareHartId,
     head: &[u64],
@@ -78,10 +79,10 @@ pub fn process(
     regions: &[u64],
     effects: &mut [u64],
 ) -> Result<u64, Error>
+    requires { let t = tables head.now home.now hardware.old queues.old regions.now in Sized t × (sound t ≡ true) }
     ensures { replied (counting result) (tables head.now home.now hardware.new queues.new regions.now) effects.new
         ≡ performed (Process on) (tables head.now home.now hardware.old queues.old regions.now) effects.old }
 {
-    sound_tables::judge(head, home, hardware, queues, regions)?;
     if effects.len() < MAX_NUMBER_OF_COMMANDS * EFFECT_WORDS {
         return Err(Error::RoomTooShort);
     }
@@ -103,6 +104,9 @@ pub fn process_confidential_hart_remote_commands(
     ensures { replied result (tables head.now home.now hardware.new queues.new regions.now) effects.new
         ≡ performed (Process on) (tables head.now home.now hardware.old queues.old regions.now) effects.old }
 {
+    if !sound_tables::are_tables_sound(head, home, hardware, queues, regions) {
+        return Reply::refused(Error::TablesNotSound);
+    }
     match process(on, head, home, hardware, queues, regions, effects) {
         Ok(n) => Reply {
             answer: Ok(Answer::Count(n)),

@@ -5,37 +5,31 @@ use mathlib.Core.List.{[]}
 use mathlib.Core.Path.{refl, sym, ap, ◌∙◌}
 use borrow.Author.Tests.{lt-ltb, le-ltb}
 use Rattle.table_rows.proofs.PickLaws.{yes, no, not_no}
-use Rattle.monitor_requests.specs.declared.Request.TheVariants.{Process}
 use Prim.Native.Nat.{ℕ}
 use Rattle.confidential_hart.specs.Hart.{is_dummy}
 use Rattle.monitor_requests.specs.Tables.{tables, hardware_hart}
 use Rattle.monitor_requests.specs.Requests.{refused_on, tests, effect, performed}
 use Rattle.monitor_requests.proofs.SoundLaws.{sound_sized}
-use Rattle.monitor_requests.proofs.JudgedLaws.{judge_refuses, judge_passes, held_refuses, held_decides, held_row, held_below, held_real}
+use Rattle.monitor_requests.proofs.JudgedLaws.{held_refuses, held_decides, held_row, held_below, held_real}
 use Rattle.held_hart.proofs.HeldLaws.{held_fits}
 use Rattle.confidential_flow_remote_commands.proofs.process.Goals as goal
-
-pub returns-in_err-judge : goal.returns-in_err-judge
-returns-in_err-judge c =
-    let p = err_from_is_err_and c.from_residual.result c.from_residual.ensures.1 in
-    rw (p.1, p.2) (sym (judge_refuses _ c.judge.ensures (Process _) c.args.effects.now c.in_err-judge.was))
 
 pub returns-then-effects : goal.returns-then-effects
 unfolding performed tests
 returns-then-effects c =
-    no _ (not_no _ (judge_passes _ c.judge.ensures c.in_ok-judge.was)) (yes _ (lt-ltb _ _ c.if-effects.true) refl)
+    no _ (not_no _ c.requires.1) (yes _ (lt-ltb _ _ c.if-effects.true) refl)
 
 pub held-requires : goal.held-requires
 held-requires c =
-    let z = sound_sized _ (judge_passes _ c.judge.ensures c.in_ok-judge.was) in (z.long.head_long, z.long.hardware_long)
+    let z = sound_sized _ c.requires.1 in (z.long.head_long, z.long.hardware_long)
 
 pub returns-in_err-k : goal.returns-in_err-k
 unfolding performed tests
 returns-in_err-k c =
     let t = tables c.args.head.now c.args.home.now c.args.hardware.now c.args.queues.now c.args.regions.now in
-    let p = err_from_is_err_and c.from_residual-in_err-k.result c.from_residual-in_err-k.ensures.1 in
+    let p = err_from_is_err_and c.from_residual.result c.from_residual.ensures.1 in
     rw (p.1, p.2)
-    (no _ (not_no _ (judge_passes t c.judge.ensures c.in_ok-judge.was))
+    (no _ (not_no _ c.requires.1)
     (no _ (le-ltb _ _ c.if-effects.false)
     (sym (held_refuses (refused_on t c.args.effects.now) _ [] t c.args.on.0 c.held.ensures c.in_err-k.was))))
 
@@ -43,7 +37,7 @@ pub id-hart-requires : goal.id-hart-requires
 id-hart-requires c =
     let t = tables c.args.head.now c.args.home.now c.args.hardware.now c.args.queues.now c.args.regions.now in
     let k = c.args.on.0 in
-    let z = sound_sized t (judge_passes t c.judge.ensures c.in_ok-judge.was) in
+    let z = sound_sized t c.requires.1 in
     omega (arith, held_row t k c.held.ensures c.in_ok-k.was, held_below t k c.held.ensures c.in_ok-k.was, z.long.hardware_long)
 
 pub execute_queued-requires : goal.execute_queued-requires
@@ -51,7 +45,7 @@ execute_queued-requires c =
     let t = tables c.args.head.now c.args.home.now c.args.hardware.now c.args.queues.now c.args.regions.now in
     let k = c.args.on.0 in
     let row = held_row t k c.held.ensures c.in_ok-k.was in
-    held_fits t (judge_passes t c.judge.ensures c.in_ok-judge.was) c.in_ok-k.k
+    held_fits t c.requires.1 c.in_ok-k.k
     (omega (arith, row, held_below t k c.held.ensures c.in_ok-k.was))
     (ap (λ (i : ℕ). is_dummy (hardware_hart t i)) row ∙ held_real t k c.held.ensures c.in_ok-k.was)
     c.id-hart.ensures
@@ -63,7 +57,7 @@ unfolding performed tests effect
 returns c =
     let t = tables c.args.head.now c.args.home.now c.args.hardware.now c.args.queues.now c.args.regions.now in
     let k = c.args.on.0 in
-    no _ (not_no _ (judge_passes t c.judge.ensures c.in_ok-judge.was))
+    no _ (not_no _ c.requires.1)
     (no _ (le-ltb _ _ c.if-effects.false)
     (rw (
       c.execute_queued.ensures.0,
